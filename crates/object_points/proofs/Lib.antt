@@ -15,6 +15,7 @@ mod Order
 mod Runs
 mod Marked
 mod MarkedHints
+mod HintedPoints
 mod SiteMarks
 pub mod HintOrder
 pub mod Below

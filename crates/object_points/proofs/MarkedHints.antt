@@ -10,7 +10,7 @@ use Rattle.object_points.proofs.Marked.{other_place}
 use Rattle.object_points.proofs.Order.{no_place}
 
 -- one more that doesn't pass changes nothing where none does
-none_passes : {X : Type 0} (p : X → Bool) (xs : List X) (x : X) → find p xs ≡ None → p x ≡ false → find p (xs ++ x ∷ []) ≡ None
+pub none_passes : {X : Type 0} (p : X → Bool) (xs : List X) (x : X) → find p xs ≡ None → p x ≡ false → find p (xs ++ x ∷ []) ≡ None
 none_passes p [] x none other = ap (λ b. cond b (Some x) None) other
 none_passes {X} p (y ∷ xs) x none other =
     let go : (b : Bool) → cond b (Some y) (find p xs) ≡ None → cond b (Some y) (find p (xs ++ x ∷ [])) ≡ None = λ b. elim b as (λ b. cond b (Some y) (find p xs) ≡ None → cond b (Some y) (find p (xs ++ x ∷ [])) ≡ None) [

@@ -160,7 +160,7 @@ pub(crate) fn list_numbers(
     let mut span = no_span();
     for n in 0..count {
         span = span_with(index, items, address_of(linked, n), span);
-        numbers.push(span.number)?;
+        numbers.push_reserved(span.number);
     }
     Ok(numbers)
 }

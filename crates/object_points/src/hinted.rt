@@ -1,11 +1,12 @@
 //! The points that have a SAVE or a RESTORE.
 
-ghost use Rattle.std.specs.Prelude.{◌≡◌, ◌<◌, ◌^◌, length, IfOk};
+ghost use Rattle.std.specs.Prelude.{◌≡◌, ◌+◌, ◌<◌, ◌^◌, length, IfOk};
 ghost use Rattle.flow_defs.specs.Code.{points_of_object};
 ghost use Rattle.flow_defs.specs.Hints.{is_restore as is_restore_hint, is_save as is_save_hint};
 ghost use Rattle.object_points.specs.Hinted.{restores_of, saves_of};
 
 use crate::PointPlaces;
+use crate::hinted_points::list_hinted_points;
 use crate::saves::{SavePoint, save_point};
 use ot_base::NoMemory;
 use state_defs::HintState;
@@ -25,11 +26,20 @@ pub(crate) fn is_restore(hint: Option<HintState>) -> bool
     matches!(hint, Some(HintState::Restore))
 }
 
-/// How many points there are.
-fn count_points(places: &PointPlaces<'_, '_, '_>) -> u32
-    ensures { result ≡ length (points_of_object places.now) }
+/// The law that there are fewer than 2^32 points.
+fn points_are_few(places: &PointPlaces<'_, '_, '_>)
+    ensures { length (points_of_object places.now) < 2 ^ 32 }
 {
-    places.linked().sites().point_count()
+    places.linked().sites().point_count();
+}
+
+/// The number behind that of a point.
+fn number_behind(places: &PointPlaces<'_, '_, '_>, n: u32) -> u32
+    requires { n < length (points_of_object places.now) }
+    ensures { result ≡ n + 1 }
+{
+    points_are_few(places);
+    n + 1
 }
 
 /// The SAVEs of an object, and the numbers of its RESTOREs, in the order of points.
@@ -50,8 +60,13 @@ pub(crate) fn list_hinted(
 {
     let mut saves = Vec::new(alloc);
     let mut restores = Vec::new(alloc);
-    for n in 0..count_points(places) {
-        if !places.may_have_hint(n) {
+    points_are_few(places);
+    let numbers = list_hinted_points(alloc, places)?;
+    let mut next = 0;
+    for number in &numbers {
+        let n = *number;
+        if n < next {
+            // The one before has the same number.
             continue;
         }
         let hint = places.hint(n);
@@ -61,6 +76,7 @@ pub(crate) fn list_hinted(
         if is_restore(hint) {
             restores.push(n)?;
         }
+        next = number_behind(places, n);
     }
     Ok(Hinted { saves, restores })
 }

@@ -9,6 +9,7 @@ mod fault_text;
 mod function_starts;
 mod hint_points;
 mod hinted;
+mod hinted_points;
 mod linked;
 mod marked_hints;
 mod marks;

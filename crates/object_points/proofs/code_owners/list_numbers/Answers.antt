@@ -1,4 +1,5 @@
-use Rattle.std.proofs.Common.{◌≡◌, ℕ, List, Some, length, sym, ap, subst, arith}
+use Rattle.std.proofs.Common.{◌≡◌, ℕ, ◌+◌, List, [], ◌∷◌, Some, length, sym, ap, ◌∙◌, subst, arith}
+use Rattle.std.proofs.lemmas.List.{length-append}
 use Rattle.std.specs.Prelude.{slice_get}
 use Rattle.ot_base.specs.declared.place.Place.{Place}
 use Rattle.elf_objects.specs.Elf.{Elf}
@@ -20,8 +21,10 @@ loop-n-preserved c =
     let at : P c.loop-n.n number = subst (λ (p : Place). TellsOwner o.elf items p number) c.address_of.ensures (subst (λ (e : Elf). TellsOwner e items c.address_of.result number) c.requires.object (c.span_with-span.ensures.tells c.address_of.result c.span_with-span.ensures.has)) in
     let here : P (length numbers) number = subst (λ (i : ℕ). P i number) (sym c.loop-n.invariant.long) at in
     record {
-      long = omega (arith, c.in_ok-push.ensures.len, c.loop-n.invariant.long);
-      each = subst (λ (xs : List ℕ). (i k : ℕ) → slice_get xs i ≡ Some k → P i k) (sym c.in_ok-push.ensures.items)
+      long = ap length c.push_reserved.ensures.items ∙ length-append numbers (number ∷ []) ∙ ap (λ (k : ℕ). k + 1) c.loop-n.invariant.long;
+      kept = omega (arith, c.push_reserved.ensures.len, c.loop-n.invariant.kept);
+      room = c.push_reserved.ensures.capacity ∙ c.loop-n.invariant.room;
+      each = subst (λ (xs : List ℕ). (i k : ℕ) → slice_get xs i ≡ Some k → P i k) (sym c.push_reserved.ensures.items)
           (one_more P numbers number c.loop-n.invariant.each here);
       tells = c.span_with-span.ensures.tells;
     }
