@@ -21,3 +21,4 @@ pub mod Points
 pub mod Rares
 pub mod Transfers
 pub mod Kinds
+pub mod Ways

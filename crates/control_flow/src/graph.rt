@@ -7,77 +7,35 @@ ghost use Rattle.program_graph.specs.Shape.{HaveShape};
 ghost use Rattle.program_graph.specs.Tells.{Tells};
 
 use crate::check_flow;
-use crate::hinted::restores_are_points;
-use crate::outgoing::{Outgoing, list_outgoing};
-use crate::points::{PointList, list_points};
-use crate::rares::{RareList, list_rares};
-use crate::returning::returns_of;
-use crate::transfers::settle_transfers;
+use crate::parts::parts_of;
 use flow_defs::FlowFault;
-use object_points::{
-    HintPoints, Linked, OwnerTable, PointPlaces, list_sites, list_texts, list_without_size,
-};
+use object_points::{Linked, PointPlaces};
 use ot_base::{Lists, NoMemory};
 use point_edges::{FlowPoints, PointArrivals};
 use program_graph::{Graph, GraphParts};
 use std::alloc::Global;
 
-/// The parts of the graph of the points of an object.
-fn parts_of(
+/// The points of an object with all that is looked up to find where they go.
+fn flow_points<'l, 'o, 'a>(
     alloc: Global,
-    points: &FlowPoints<'_, '_, '_>,
+    places: PointPlaces<'l, 'o, 'a>,
+) -> Result<FlowPoints<'l, 'o, 'a>, NoMemory>
+    ensures { IfOk result (λ points. points ≡ places.entry) }
+{
+    FlowPoints::build(alloc, PointArrivals::build(alloc, places)?)
+}
+
+/// The parts of the graph of the points of an object, which are given back.
+fn parts_of_places(
+    alloc: Global,
+    places: PointPlaces<'_, '_, '_>,
     lists: &Lists,
 ) -> Result<GraphParts, NoMemory>
-    ensures tells { IfOk result (Tells (program_of points.now lists.now)) }
+    ensures tells { IfOk result (Tells (program_of places.entry lists.now)) }
     ensures shape { IfOk result HaveShape }
 {
-    let places = points.places();
-    let object = places.linked().object();
-    let Outgoing {
-        edges,
-        alike,
-        exits,
-        transfers,
-    } = list_outgoing(alloc, points, lists)?;
-    let returns = returns_of(alloc, points, lists, edges, exits)?;
-    let transfer_list = settle_transfers(points, transfers, &returns)?;
-    let hints = HintPoints::build(alloc, places)?;
-    let RareList {
-        rares,
-        hinted,
-        numbers,
-    } = list_rares(alloc, points, &hints)?;
-    let owners = OwnerTable::build(alloc, places)?;
-    let PointList {
-        points: made,
-        kinds,
-    } = list_points(
-        alloc,
-        points,
-        &owners,
-        &returns,
-        &numbers,
-        &transfer_list.numbers,
-    )?;
-    let sites = list_sites(alloc, places)?;
-    let texts = list_texts(alloc, object)?;
-    let without_size = list_without_size(alloc, object)?;
-    restores_are_points(&hints);
-    Ok(GraphParts {
-        points: made,
-        starts: returns.starts,
-        edges: returns.edges,
-        alike,
-        owners: owners.into_owners(),
-        kinds,
-        transfers: transfer_list.transfers,
-        rares,
-        hinted,
-        restores: hints.into_restores(),
-        sites,
-        texts,
-        without_size,
-    })
+    let points = flow_points(alloc, places)?;
+    parts_of(alloc, &points, lists)
 }
 
 /// The graph of the points of an object.
@@ -88,9 +46,7 @@ fn graph_of(
 ) -> Result<Graph, NoMemory>
     ensures { IfOk result (λ graph. Tells (program_of places.entry lists.now) graph.parts) }
 {
-    let arrivals = PointArrivals::build(alloc, places)?;
-    let points = FlowPoints::build(alloc, arrivals)?;
-    Ok(Graph::new(parts_of(alloc, &points, lists)?))
+    Ok(Graph::new(parts_of_places(alloc, places, lists)?))
 }
 
 /// The control-flow graph of an object whose code is read, where functions, lists of places, static branches, calls within

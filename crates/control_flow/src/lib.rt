@@ -20,6 +20,7 @@ mod low;
 mod numbers;
 mod order;
 mod outgoing;
+mod parts;
 mod places;
 mod points;
 mod preceding;

@@ -7,6 +7,7 @@ mod arrive;
 mod behind;
 mod kind;
 mod kinds;
+mod listed;
 mod lists;
 mod low;
 mod own_points;

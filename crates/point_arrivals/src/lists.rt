@@ -14,8 +14,8 @@ ghost use Rattle.point_arrivals.specs.Straight.{ends_at_next as ends_at_next_poi
 use crate::arrive::{arrive, arrive_alone};
 use crate::behind::{after, end_of, is_at_end};
 use crate::kind::Kind;
+use crate::listed::{ListedPairs, ListedPlaces, list_pairs, list_places};
 use crate::low::points_are_low;
-use crate::pairs::{branch_pairs, fix_pairs, original_places};
 use crate::remade::insn;
 use crate::rooms::{list_rooms, makes_room};
 use crate::straight::ends_at_next;
@@ -63,13 +63,13 @@ impl<'l, 'o, 'a> PointLists<'l, 'o, 'a> {
     {
         points_are_low(places.linked());
         let special = places.linked().special();
-        let originals = original_places(alloc, special.alternatives())?;
-        let originals = PlaceSet::build(alloc, originals.as_slice())?;
-        let reachable = PlaceSet::build(alloc, special.after_reachable())?;
-        let unreachable = PlaceSet::build(alloc, special.after_unreachable())?;
-        let intra_calls = PlaceSet::build(alloc, special.intra_calls())?;
-        let branches = PlaceMap::build(alloc, branch_pairs(alloc, special.branches())?)?;
-        let fixes = PlaceMap::build(alloc, fix_pairs(alloc, special.fixes())?)?;
+        let ListedPlaces {
+            originals,
+            reachable,
+            unreachable,
+            intra_calls,
+        } = list_places(alloc, special)?;
+        let ListedPairs { branches, fixes } = list_pairs(alloc, special)?;
         let rooms = list_rooms(alloc, &places)?;
         Ok(PointLists {
             places,

@@ -1,0 +1,16 @@
+-- Where control goes from an object's points.
+use Rattle.std.specs.Prelude.{ℕ, List}
+use Rattle.ot_base.specs.NameLists.{NameLists}
+use Rattle.flow_defs.specs.Coded.{Coded}
+use Rattle.machine_defs.specs.declared.flow.Edge.{Edge}
+use Rattle.control_flow.specs.Listed.{AreEdges, count_of}
+use Rattle.control_flow.specs.Returns.{AreReturns}
+use Rattle.control_flow.specs.declared.found_returns.Returns.{Returns}
+
+-- it is told from which points a return may come as it follows from the edges that are listed, of which these points have
+-- those of another
+pub record AreWays (o : Coded) (lists : NameLists) (returns : Returns) (alike : List ℕ) : Type 0 where
+  pub starts : List ℕ
+  pub edges : List Edge
+  pub listed : AreEdges o starts edges alike (count_of o)
+  pub told : AreReturns o lists starts edges returns

@@ -1,0 +1,164 @@
+//! The parts of the graph of an object's points. They are made by three functions, each of which gives back few of them.
+
+ghost use Rattle.std.specs.Prelude.{◌≡◌, ◌<◌, ◌^◌, ℕ, All, IfOk, length, map};
+ghost use Rattle.flow_defs.specs.Program.{program_of, text_sections_of, unsized_of};
+ghost use Rattle.flow_defs.specs.Sites.{sites_of};
+ghost use Rattle.program_graph.specs.Shape.{HaveShape};
+ghost use Rattle.program_graph.specs.Tells.{Tells, site_of, text_of};
+ghost use Rattle.control_flow.specs.Listed.{AreEntered, count_of};
+ghost use Rattle.control_flow.specs.Numbers.{HaveNumbers};
+ghost use Rattle.control_flow.specs.Points.{AreMade};
+ghost use Rattle.control_flow.specs.Rares.{AreRares};
+ghost use Rattle.control_flow.specs.Shape.{HaveShape as HaveReturnShape};
+ghost use Rattle.control_flow.specs.Transfers.{IsTransferOf};
+ghost use Rattle.control_flow.specs.Ways.{AreWays};
+
+use crate::Returns;
+use crate::hinted::restores_are_points;
+use crate::outgoing::{Outgoing, list_outgoing};
+use crate::points::{PointList, list_points};
+use crate::rares::{RareList, list_rares};
+use crate::returning::returns_of;
+use crate::transfers::{TransferList, settle_transfers};
+use object_points::{
+    HintPoints, OwnerTable, PointPlaces, list_sites, list_texts, list_without_size,
+};
+use ot_base::{Lists, NoMemory, Place};
+use point_edges::FlowPoints;
+use program_graph::{GraphParts, GraphSite, Owner, TextSection};
+use std::alloc::Global;
+
+/// Where control goes.
+#[derive(Drop)]
+struct Ways {
+    /// From which points a return may come, with the edges.
+    returns: Returns,
+    /// The points that have the edges of another, ascending.
+    alike: Vec<u32>,
+    transfers: TransferList,
+}
+
+/// Where control goes from the points.
+fn list_ways(
+    alloc: Global,
+    points: &FlowPoints<'_, '_, '_>,
+    lists: &Lists,
+) -> Result<Ways, NoMemory>
+    ensures shape { IfOk result (λ ways. HaveReturnShape (count_of points.now) ways.returns) }
+    ensures told { IfOk result (λ ways. AreWays points.now lists.now ways.returns ways.alike.items) }
+    ensures entered { IfOk result (λ ways. AreEntered points.now ways.returns.entered.items (count_of points.now)) }
+    ensures transfers { IfOk result (λ ways. HaveNumbers (IsTransferOf points.now ways.returns) ways.transfers.transfers.items ways.transfers.numbers.items (count_of points.now)) }
+{
+    let Outgoing {
+        edges,
+        alike,
+        exits,
+        transfers,
+    } = list_outgoing(alloc, points, lists)?;
+    let returns = returns_of(alloc, points, lists, edges, exits)?;
+    let transfers = settle_transfers(points, transfers, &returns)?;
+    Ok(Ways {
+        returns,
+        alike,
+        transfers,
+    })
+}
+
+/// The points, with what they have besides.
+#[derive(Drop)]
+struct OwnedPoints {
+    list: PointList,
+    /// Whose code they are.
+    owners: Vec<Owner>,
+    /// What few of them have.
+    rares: RareList,
+    /// The RESTOREs.
+    restores: Vec<u32>,
+}
+
+/// The points, where it is told from which of them a return may come, and where their transfers stand.
+fn own_points(
+    alloc: Global,
+    points: &FlowPoints<'_, '_, '_>,
+    returns: &Returns,
+    transfers: &[u32],
+) -> Result<OwnedPoints, NoMemory>
+    requires shape { HaveReturnShape (count_of points.now) returns.now }
+    requires entered { AreEntered points.now returns.now.entered.items (count_of points.now) }
+    requires transfers { length transfers.now ≡ count_of points.now }
+    ensures made { IfOk result (λ own. AreMade points.now own.owners.items returns.now own.rares.numbers.items transfers.now own.list.kinds.items own.list.points.items (count_of points.now)) }
+    ensures few { IfOk result (λ own. length own.list.points.items < 2 ^ 32) }
+    ensures rares { IfOk result (λ own. AreRares points.now own.restores.items own.rares.rares.items own.rares.hinted.items own.rares.numbers.items (count_of points.now)) }
+    ensures restores { IfOk result (λ own. All (λ r. r < count_of points.now) own.restores.items) }
+{
+    let places = points.places();
+    let hints = HintPoints::build(alloc, places)?;
+    let rares = list_rares(alloc, points, &hints)?;
+    let owners = OwnerTable::build(alloc, places)?;
+    let list = list_points(alloc, points, &owners, returns, &rares.numbers, transfers)?;
+    restores_are_points(&hints);
+    Ok(OwnedPoints {
+        list,
+        owners: owners.into_owners(),
+        rares,
+        restores: hints.into_restores(),
+    })
+}
+
+/// What stands beside the points.
+#[derive(Drop)]
+struct Surroundings {
+    sites: Vec<GraphSite>,
+    texts: Vec<TextSection>,
+    without_size: Vec<Place>,
+}
+
+/// What stands beside the points.
+fn list_surroundings(
+    alloc: Global,
+    places: &PointPlaces<'_, '_, '_>,
+) -> Result<Surroundings, NoMemory>
+    ensures sites { IfOk result (λ beside. map site_of beside.sites.items ≡ sites_of places.now) }
+    ensures texts { IfOk result (λ beside. map text_of beside.texts.items ≡ text_sections_of places.now.elf) }
+    ensures without_size { IfOk result (λ beside. beside.without_size.items ≡ unsized_of places.now.elf) }
+{
+    let object = places.linked().object();
+    Ok(Surroundings {
+        sites: list_sites(alloc, places)?,
+        texts: list_texts(alloc, object)?,
+        without_size: list_without_size(alloc, object)?,
+    })
+}
+
+/// The parts of the graph of the points of an object.
+pub(crate) fn parts_of(
+    alloc: Global,
+    points: &FlowPoints<'_, '_, '_>,
+    lists: &Lists,
+) -> Result<GraphParts, NoMemory>
+    ensures tells { IfOk result (Tells (program_of points.now lists.now)) }
+    ensures shape { IfOk result HaveShape }
+{
+    let Ways {
+        returns,
+        alike,
+        transfers,
+    } = list_ways(alloc, points, lists)?;
+    let own = own_points(alloc, points, &returns, &transfers.numbers)?;
+    let beside = list_surroundings(alloc, points.places())?;
+    Ok(GraphParts {
+        points: own.list.points,
+        starts: returns.starts,
+        edges: returns.edges,
+        alike,
+        owners: own.owners,
+        kinds: own.list.kinds,
+        transfers: transfers.transfers,
+        rares: own.rares.rares,
+        hinted: own.rares.hinted,
+        restores: own.restores,
+        sites: beside.sites,
+        texts: beside.texts,
+        without_size: beside.without_size,
+    })
+}
