@@ -10,8 +10,8 @@ use Rattle.machine_defs.specs.Program.{Program}
 use Rattle.flow_defs.specs.Code.{point_at}
 use Rattle.flow_defs.specs.Owners.{function_of_point}
 use Rattle.flow_defs.specs.Program.{comes_back, graph_of, never_returns_by, program_of, returning_graph}
-use Rattle.control_flow.specs.declared.searched_flow.Exit.TheVariants as exits
-use Rattle.control_flow.specs.Told.{exit_of}
+use Rattle.return_search.specs.declared.searched_flow.Exit.TheVariants as exits
+use Rattle.return_search.specs.Told.{exit_of}
 
 pub never_returns_is : (o : Coded) (lists : NameLists) (sym : ℕ) → (program_of o lists).never_returns sym ≡ never_returns_by o.elf lists sym
 unfolding program_of returning_graph graph_of

@@ -15,9 +15,9 @@ use Rattle.flow_defs.specs.Code.{point_at}
 use Rattle.flow_defs.specs.Edges.{goes}
 use Rattle.flow_defs.specs.Program.{program_of}
 use Rattle.flow_defs.specs.Roles.{role_of}
-use Rattle.control_flow.specs.declared.searched_flow.Exit.{Exit}
-use Rattle.control_flow.specs.Told.{exit_of}
-use Rattle.control_flow.proofs.Ranges.{range_new, range_push}
+use Rattle.return_search.specs.declared.searched_flow.Exit.{Exit}
+use Rattle.return_search.specs.Told.{exit_of}
+use Rattle.return_search.proofs.Ranges.{range_new, range_push}
 use Rattle.control_flow.specs.Listed.{AreEdges, AreExits, ExitCallsPoint, IsAlikeIn, count_of}
 use Rattle.control_flow.specs.Lone.{HasEdgesOf}
 use Rattle.control_flow.proofs.Steps.{each_more}

@@ -24,8 +24,8 @@ use Rattle.flow_defs.specs.Owners.{is_unchecked_point}
 use Rattle.flow_defs.specs.Program.{calls_fentry_by, program_of}
 use Rattle.flow_defs.specs.Roles.{role_by, role_of, table_of_point}
 use Rattle.flow_defs.specs.Sites.{is_into_site}
-use Rattle.control_flow.specs.declared.searched_flow.Exit.TheVariants.{Passes}
-use Rattle.control_flow.specs.Told.{exit_of}
+use Rattle.return_search.specs.declared.searched_flow.Exit.TheVariants.{Passes}
+use Rattle.return_search.specs.Told.{exit_of}
 use Rattle.control_flow.specs.Listed.{ExitCallsPoint, count_of}
 use Rattle.point_edges.specs.Straight.{IsStraight, is_straight_op}
 use Rattle.control_flow.specs.Transfers.{IsTransfer}

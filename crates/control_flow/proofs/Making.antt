@@ -6,7 +6,7 @@ use Rattle.flow_defs.specs.Coded.{Coded}
 use Rattle.program_graph.specs.declared.parts.Owner.{Owner}
 use Rattle.program_graph.specs.declared.parts.GraphPoint.{GraphPoint}
 use Rattle.program_graph.specs.declared.parts.PointKind.{PointKind}
-use Rattle.control_flow.specs.declared.found_returns.Returns.{Returns}
+use Rattle.return_search.specs.declared.found_returns.Returns.{Returns}
 use Rattle.control_flow.specs.Numbers.{IsNumbered}
 use Rattle.control_flow.specs.Points.{AreMade, IsKind, IsMade, IsPlaced}
 use Rattle.control_flow.proofs.Steps.{items_more}

@@ -5,7 +5,7 @@ use Rattle.std.proofs.lemmas.Bool.{cases_lt}
 use Rattle.flow_defs.specs.Coded.{Coded}
 use Rattle.machine_defs.specs.declared.flow.Marks.{Marks}
 use Rattle.program_graph.specs.declared.parts.Transfer.{Transfer}
-use Rattle.control_flow.specs.declared.found_returns.Returns.{Returns}
+use Rattle.return_search.specs.declared.found_returns.Returns.{Returns}
 use Rattle.flow_defs.specs.Arrival.{is_at_end}
 use Rattle.flow_defs.specs.Code.{point_at}
 use Rattle.flow_defs.specs.Edges.{goes_on}

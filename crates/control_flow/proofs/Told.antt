@@ -18,11 +18,11 @@ use Rattle.flow_defs.specs.Code.{point_at}
 use Rattle.flow_defs.specs.Edges.{goes}
 use Rattle.flow_defs.specs.Program.{graph_of, program_of, returning_graph}
 use Rattle.flow_defs.specs.Roles.{role_of}
-use Rattle.control_flow.specs.declared.searched_flow.Exit.{Exit}
-use Rattle.control_flow.specs.declared.searched_flow.Exit.TheVariants as exits
-use Rattle.control_flow.specs.declared.searched_flow.Flow.{Flow}
-use Rattle.control_flow.specs.Shape.{HasShape}
-use Rattle.control_flow.specs.Told.{SharesEdges, TellsFlow, callee_at, edges_from, exit_of, exit_at}
+use Rattle.return_search.specs.declared.searched_flow.Exit.{Exit}
+use Rattle.return_search.specs.declared.searched_flow.Exit.TheVariants as exits
+use Rattle.return_search.specs.declared.searched_flow.Flow.{Flow}
+use Rattle.return_search.specs.Shape.{HasShape}
+use Rattle.return_search.specs.Told.{SharesEdges, TellsFlow, callee_at, edges_from, exit_of, exit_at}
 use Rattle.control_flow.specs.Listed.{AreDeadEnds, AreEdges, AreEntered, AreExits, CallsPoint, ExitCallsPoint, IsPointIfAny, count_of}
 use Rattle.control_flow.proofs.Callees.{entry_named, lone_named}
 use Rattle.control_flow.proofs.Steps.{all_at}

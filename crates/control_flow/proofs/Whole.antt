@@ -27,8 +27,8 @@ use Rattle.program_graph.specs.declared.parts.Rare.{Rare}
 use Rattle.program_graph.specs.declared.parts.Transfer.{Transfer}
 use Rattle.program_graph.specs.Shape.{HaveShape, IsAlike, IsKindOf, first_target, listed_of, start_of}
 use Rattle.program_graph.specs.Tells.{Means, Tells, TellsHinted, TellsKind, TellsOwner, TellsPoint, TellsRare, TellsTransfer, TellsUnhinted, site_of, text_of}
-use Rattle.control_flow.specs.declared.found_returns.Returns.{Returns}
-use Rattle.control_flow.specs.Shape.{HaveShape as HaveReturnShape}
+use Rattle.return_search.specs.declared.found_returns.Returns.{Returns}
+use Rattle.return_search.specs.Shape.{HaveShape as HaveReturnShape}
 use Rattle.object_points.specs.Owners.{IsOwnerOf}
 use Rattle.control_flow.specs.Listed.{AreEdges, count_of}
 use Rattle.control_flow.specs.Lone.{HasEdgesOf}

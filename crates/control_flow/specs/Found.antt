@@ -10,8 +10,8 @@ use Rattle.flow_defs.specs.Edges.{goes}
 use Rattle.flow_defs.specs.Program.{program_of}
 use Rattle.flow_defs.specs.Roles.{role_of}
 use Rattle.program_graph.specs.declared.parts.Transfer.{Transfer}
-use Rattle.control_flow.specs.declared.searched_flow.Exit.{Exit}
-use Rattle.control_flow.specs.Told.{exit_of}
+use Rattle.return_search.specs.declared.searched_flow.Exit.{Exit}
+use Rattle.return_search.specs.Told.{exit_of}
 use Rattle.control_flow.specs.Listed.{ExitCallsPoint, count_of}
 use Rattle.control_flow.specs.Lone.{GoAlike, HasEdgesOf}
 use Rattle.control_flow.specs.Numbers.{IsNumbered}

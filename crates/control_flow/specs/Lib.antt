@@ -1,16 +1,9 @@
-pub mod Chained
-pub mod Told
-pub mod Shape
-pub mod Backward
-pub mod Search
-pub mod Stays
 pub mod Entered
 pub mod Gapless
 pub mod Few
 pub mod Judged
 pub mod Listed
 pub mod Entering
-pub mod Flagged
 pub mod Lone
 pub mod Named
 pub mod Found

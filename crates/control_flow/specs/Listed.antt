@@ -13,9 +13,9 @@ use Rattle.flow_defs.specs.Code.{point_at, points_of_object}
 use Rattle.flow_defs.specs.Edges.{goes}
 use Rattle.flow_defs.specs.Program.{program_of}
 use Rattle.flow_defs.specs.Roles.{role_of}
-use Rattle.control_flow.specs.declared.searched_flow.Exit.{Exit}
-use Rattle.control_flow.specs.declared.searched_flow.Exit.TheVariants.{Calls}
-use Rattle.control_flow.specs.Told.{exit_of}
+use Rattle.return_search.specs.declared.searched_flow.Exit.{Exit}
+use Rattle.return_search.specs.declared.searched_flow.Exit.TheVariants.{Calls}
+use Rattle.return_search.specs.Told.{exit_of}
 use Rattle.control_flow.specs.Entered.{IsEnteredAt}
 use Rattle.control_flow.specs.Lone.{HasEdgesOf}
 

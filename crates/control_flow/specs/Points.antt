@@ -11,7 +11,7 @@ use Rattle.program_graph.specs.Tells.{insn_of, place_of}
 use Rattle.program_graph.specs.declared.parts.Owner.{Owner}
 use Rattle.program_graph.specs.declared.parts.GraphPoint.{GraphPoint}
 use Rattle.program_graph.specs.declared.parts.PointKind.{PointKind}
-use Rattle.control_flow.specs.declared.found_returns.Returns.{Returns}
+use Rattle.return_search.specs.declared.found_returns.Returns.{Returns}
 
 -- it is the kind of point q, where it is told whether a return may come from it on, and where what few points have and its
 -- transfer stand for it

@@ -4,9 +4,9 @@ use Rattle.ot_base.specs.NameLists.{NameLists}
 use Rattle.flow_defs.specs.Coded.{Coded}
 use Rattle.machine_defs.specs.declared.flow.Edge.{Edge}
 use Rattle.flow_defs.specs.Program.{program_of}
-use Rattle.control_flow.specs.declared.searched_flow.Flow.{Flow}
-use Rattle.control_flow.specs.declared.found_returns.Returns.{Returns}
-use Rattle.control_flow.specs.Told.{TellsReturns}
+use Rattle.return_search.specs.declared.searched_flow.Flow.{Flow}
+use Rattle.return_search.specs.declared.found_returns.Returns.{Returns}
+use Rattle.return_search.specs.Told.{TellsReturns}
 
 -- The result tells of the object's program what a search finds in a flow with these edges.
 pub record AreReturns (o : Coded) (lists : NameLists) (starts : List ℕ) (edges : List Edge) (returns : Returns) : Type 0 where

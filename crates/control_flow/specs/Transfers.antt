@@ -6,7 +6,7 @@ use Rattle.flow_defs.specs.Marks.{marks_of}
 use Rattle.flow_defs.specs.Program.{calls_fentry_by}
 use Rattle.flow_defs.specs.Roles.{role_of}
 use Rattle.program_graph.specs.declared.parts.Transfer.{Transfer}
-use Rattle.control_flow.specs.declared.found_returns.Returns.{Returns}
+use Rattle.return_search.specs.declared.found_returns.Returns.{Returns}
 
 -- it is that of point q, where it is told whether a call there can come back
 pub record IsTransfer (o : Coded) (q : ℕ) (comes_back : Bool) (x : Transfer) : Type 0 where

@@ -4,9 +4,9 @@ ghost use Rattle.std.specs.Prelude.{◌≡◌, ◌+◌, ◌<◌, IfOk, false};
 ghost use Rattle.flow_defs.specs.Arrival.{is_dead_end};
 ghost use Rattle.flow_defs.specs.Code.{point_at};
 ghost use Rattle.flow_defs.specs.Program.{program_of};
-ghost use Rattle.control_flow.specs.Told.{exit_of};
+ghost use Rattle.return_search.specs.Told.{exit_of};
 ghost use Rattle.machine_defs.specs.MayReturn.{is_listed, is_listed_function as is_listed_in};
-ghost use Rattle.control_flow.specs.Flagged.{AreFlagged};
+ghost use Rattle.return_search.specs.Flagged.{AreFlagged};
 ghost use Rattle.control_flow.specs.Listed.{AreDeadEnds, CallsPoint, count_of};
 ghost use Rattle.control_flow.specs.Named.{AreLookedUp};
 

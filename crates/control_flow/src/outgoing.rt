@@ -11,7 +11,7 @@ ghost use Rattle.flow_defs.specs.Program.{program_of};
 ghost use Rattle.flow_defs.specs.Roles.{role_of};
 ghost use Rattle.flow_defs.specs.Targets.{destination_of};
 ghost use Rattle.point_edges.specs.Jumps.{direct_way};
-ghost use Rattle.control_flow.specs.Told.{exit_of};
+ghost use Rattle.return_search.specs.Told.{exit_of};
 ghost use Rattle.control_flow.specs.Found.{IsExit, IsFound, IsGathered, IsKept, IsListed};
 ghost use Rattle.control_flow.specs.Listed.{AreEdges, AreExits, ExitCallsPoint, count_of};
 ghost use Rattle.control_flow.specs.Lone.{AreLoneJumps};

@@ -4,7 +4,7 @@ ghost use Rattle.std.specs.Prelude.{◌≡◌, ◌<◌, ◌^◌, IfOk, length};
 ghost use Rattle.ot_base.specs.NameLists.{NameLists};
 ghost use Rattle.machine_defs.specs.Kept.{is_at_entry};
 ghost use Rattle.flow_defs.specs.Program.{program_of};
-ghost use Rattle.control_flow.specs.Shape.{HaveShape};
+ghost use Rattle.return_search.specs.Shape.{HaveShape};
 ghost use Rattle.control_flow.specs.Listed.{AreEntered, count_of};
 ghost use Rattle.control_flow.specs.Points.{AreMade, IsKind, IsPlaced};
 

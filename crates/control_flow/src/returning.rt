@@ -3,8 +3,8 @@
 ghost use Rattle.std.specs.Prelude.{◌≡◌, ◌<◌, ◌^◌, ℕ, List, IfOk};
 ghost use Rattle.machine_defs.specs.IsProgram.{IsProgram};
 ghost use Rattle.flow_defs.specs.Program.{program_of};
-ghost use Rattle.control_flow.specs.Shape.{HasShape, HaveShape, points_of};
-ghost use Rattle.control_flow.specs.Told.{TellsFlow};
+ghost use Rattle.return_search.specs.Shape.{HasShape, HaveShape, points_of};
+ghost use Rattle.return_search.specs.Told.{TellsFlow};
 ghost use Rattle.control_flow.specs.Listed.{AreEdges, AreEntered, AreExits, count_of};
 ghost use Rattle.control_flow.specs.Returns.{AreReturns};
 

@@ -6,7 +6,7 @@ ghost use Rattle.flow_defs.specs.Arrival.{insn_of_object};
 ghost use Rattle.flow_defs.specs.Code.{point_at};
 ghost use Rattle.flow_defs.specs.Roles.{role_of};
 ghost use Rattle.flow_defs.specs.Targets.{destination_of};
-ghost use Rattle.control_flow.specs.Shape.{HaveShape};
+ghost use Rattle.return_search.specs.Shape.{HaveShape};
 ghost use Rattle.point_edges.specs.Jumps.{direct_way};
 ghost use Rattle.control_flow.specs.Listed.{CallsPoint, count_of};
 ghost use Rattle.control_flow.specs.Numbers.{AreNumbered, HaveNumbers, IsNumbered};

@@ -2,7 +2,7 @@ use Rattle.std.proofs.Common.{Bool, cond, sym, ap, ◌∙◌}
 use Rattle.elf_objects.specs.Elf.{Elf}
 use Rattle.flow_defs.specs.Coded.{Coded}
 use Rattle.flow_defs.specs.Program.{never_returns_by, program_of}
-use Rattle.control_flow.specs.declared.searched_flow.Exit.TheVariants as exits
+use Rattle.return_search.specs.declared.searched_flow.Exit.TheVariants as exits
 use Rattle.control_flow.proofs.Fields.{entry_exit, jump_named, listed_exit}
 use Rattle.control_flow.proofs.listed.exit.Goals as goal
 

@@ -1,7 +1,7 @@
 use Rattle.std.proofs.Common.{ℕ, false}
 use Rattle.flow_defs.specs.Arrival.{is_dead_end}
 use Rattle.flow_defs.specs.Code.{point_at}
-use Rattle.control_flow.specs.Flagged.{AreFlagged}
+use Rattle.return_search.specs.Flagged.{AreFlagged}
 use Rattle.control_flow.specs.Listed.{count_of}
 use Rattle.control_flow.proofs.listed.list_dead_ends.Given as goal
 

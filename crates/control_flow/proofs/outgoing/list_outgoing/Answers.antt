@@ -3,7 +3,7 @@ use Rattle.std.specs.Prelude.{slice_get}
 use Rattle.flow_defs.specs.Coded.{Coded}
 use Rattle.machine_defs.specs.declared.flow.Edge.{Edge}
 use Rattle.program_graph.specs.declared.parts.Transfer.{Transfer}
-use Rattle.control_flow.specs.declared.searched_flow.Exit.{Exit}
+use Rattle.return_search.specs.declared.searched_flow.Exit.{Exit}
 use Rattle.control_flow.specs.declared.outgoing.Gathered.{Gathered}
 use Rattle.control_flow.specs.Listed.{AreEdges, count_of}
 use Rattle.control_flow.specs.declared.transfers.TheConstants.{USUAL}

@@ -2,7 +2,7 @@ use Rattle.std.proofs.Common.{refl, subst}
 use Rattle.flow_defs.specs.Coded.{Coded}
 use Rattle.point_edges.specs.Straight.{IsStraight}
 use Rattle.control_flow.specs.declared.outgoing.Found.TheVariants.{Own}
-use Rattle.control_flow.specs.declared.searched_flow.Exit.TheVariants.{Passes}
+use Rattle.return_search.specs.declared.searched_flow.Exit.TheVariants.{Passes}
 use Rattle.control_flow.specs.declared.transfers.TheConstants.{USUAL}
 use Rattle.control_flow.proofs.Going.{kept_own}
 use Rattle.control_flow.proofs.GoesOn.{passes_calls_none, straight_exit, straight_transfer}

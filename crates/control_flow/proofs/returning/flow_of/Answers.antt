@@ -1,6 +1,6 @@
 use Rattle.std.proofs.Common.{refl}
 use Rattle.flow_defs.specs.Coded.{Coded}
-use Rattle.control_flow.specs.declared.searched_flow.Flow.{Flow}
+use Rattle.return_search.specs.declared.searched_flow.Flow.{Flow}
 use Rattle.control_flow.specs.Listed.{AreEntered, count_of}
 use Rattle.control_flow.proofs.Told.{flow_count, has_shape, tells_flow}
 use Rattle.control_flow.proofs.returning.flow_of.Goals as goal

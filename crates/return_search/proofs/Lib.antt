@@ -1,0 +1,10 @@
+pub mod Chaining
+pub mod Ranges
+pub mod Least
+pub mod SearchSteps
+pub mod Keeping
+pub mod Dropping
+pub mod Passing
+pub mod Walks
+pub mod Running
+pub mod Leading

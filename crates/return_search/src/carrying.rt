@@ -1,0 +1,118 @@
+//! Over which edges a return is carried back, as far as a search knows.
+
+ghost use Rattle.std.specs.Prelude.{◌≡◌, ◌+◌, ◌<◌, ◌&&◌, ℕ, true, false, IsTrue, length, slice_index, slice_index_or, slice_set};
+ghost use Rattle.machine_defs.specs.declared.flow.EdgeKind.TheVariants.{Next};
+ghost use Rattle.return_search.specs.Told.{dead_end_at, exit_at};
+ghost use Rattle.return_search.specs.Shape.{HasShape, points_of};
+ghost use Rattle.return_search.specs.Backward.{IsEdgeOf, edge_at};
+ghost use Rattle.return_search.specs.Search.{AreListed, IsNewlyCarried, StepsOn, carries as carries_back, is_set, target_returns as does_target_return, is_calling};
+
+use crate::return_search::Search;
+use crate::searched_flow::{Exit, Flow};
+use machine_defs::EdgeKind;
+
+/// Whether the target of a point's call returns, as far as it is known. What isn't a call passes.
+pub(crate) fn target_returns(flow: &Flow, known: &[bool], q: u32) -> bool
+    requires shape { HasShape flow.now }
+    requires known { length known.now ≡ points_of flow.now }
+    requires point { q < points_of flow.now }
+    ensures { result ≡ does_target_return known.now (exit_at flow.now q) }
+{
+    match flow.exits[q as usize] {
+        Exit::Calls { entry } => known[entry as usize],
+        Exit::CallsNever => false,
+        Exit::Leaves | Exit::CallsOut | Exit::Passes => true,
+    }
+}
+
+/// Whether a point is a call that execution never passes.
+fn is_dead_call(flow: &Flow, q: u32) -> bool
+    requires shape { HasShape flow.now }
+    requires point { q < points_of flow.now }
+    ensures { result ≡ (is_calling (exit_at flow.now q) && dead_end_at flow.now q) }
+{
+    match flow.exits[q as usize] {
+        Exit::Calls { .. } | Exit::CallsOut | Exit::CallsNever => flow.dead_ends[q as usize],
+        Exit::Leaves | Exit::Passes => false,
+    }
+}
+
+/// Whether a return that may come from the end of a Next may come from its point too. Most points pass.
+fn carries_next(flow: &Flow, known: &[bool], q: u32) -> bool
+    requires shape { HasShape flow.now }
+    requires known { length known.now ≡ points_of flow.now }
+    requires point { q < points_of flow.now }
+    ensures { result ≡ carries_back flow.now known.now q Next }
+{
+    if let Exit::Passes = flow.exits[q as usize] {
+        return true;
+    }
+    target_returns(flow, known, q) && !is_dead_call(flow, q)
+}
+
+/// Whether a return that may come from the end of an edge of this kind may come from its point too.
+pub(crate) fn carries(flow: &Flow, known: &[bool], q: u32, kind: EdgeKind) -> bool
+    requires shape { HasShape flow.now }
+    requires known { length known.now ≡ points_of flow.now }
+    requires point { q < points_of flow.now }
+    ensures { result ≡ carries_back flow.now known.now q kind }
+{
+    match kind {
+        EdgeKind::Next => carries_next(flow, known, q),
+        EdgeKind::Taken | EdgeKind::Fixup | EdgeKind::Table | EdgeKind::Sibling => true,
+    }
+}
+
+/// Whether a return is carried to a point from one that is found.
+pub(crate) fn is_carried_to(flow: &Flow, search: &Search, q: u32) -> bool
+    requires shape { HasShape flow.now }
+    requires listed { AreListed flow.now search.now }
+    requires point { q < points_of flow.now }
+    ensures carried { IsTrue result → (i : ℕ) × IsEdgeOf flow.now q i × (is_set search.now.found.items (edge_at flow.now i).to ≡ true) × (carries_back flow.now search.now.known.items q (edge_at flow.now i).kind ≡ true) }
+    ensures not_carried { result ≡ false → (i : ℕ) → IsEdgeOf flow.now q i → is_set search.now.found.items (edge_at flow.now i).to ≡ true → carries_back flow.now search.now.known.items q (edge_at flow.now i).kind ≡ true → ⊥ }
+{
+    for i in flow.start(q as usize)..flow.start(q as usize + 1) {
+        let edge = flow.edges[i];
+        if search.found[edge.to as usize] && carries(flow, &search.known, q, edge.kind) {
+            return true;
+        }
+    }
+    false
+}
+
+/// Whether a point has first of all a Next to the point right behind it, over which any return is carried to it. Most have.
+fn steps_on(flow: &Flow, q: u32) -> bool
+    requires shape { HasShape flow.now }
+    requires point { q < points_of flow.now }
+    ensures { IsTrue result → StepsOn flow.now q }
+{
+    let first = flow.start(q as usize);
+    if first == flow.start(q as usize + 1) {
+        return false;
+    }
+    let behind = q + 1;
+    if flow.edges[first].to != behind {
+        return false;
+    }
+    if !matches!(flow.edges[first].kind, EdgeKind::Next) {
+        return false;
+    }
+    matches!(flow.exits[q as usize], Exit::Passes)
+}
+
+/// Whether a return is carried to a point that isn't found yet, where the one right behind it is.
+pub(crate) fn is_newly_carried(flow: &Flow, search: &Search, q: u32) -> bool
+    requires shape { HasShape flow.now }
+    requires listed { AreListed flow.now search.now }
+    requires point { q < points_of flow.now }
+    requires behind { is_set search.now.found.items (q + 1) ≡ true }
+    ensures { IsTrue result → IsNewlyCarried flow.now search.now q }
+{
+    if search.found[q as usize] {
+        return false;
+    }
+    if steps_on(flow, q) {
+        return true;
+    }
+    is_carried_to(flow, search, q)
+}

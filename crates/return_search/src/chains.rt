@@ -1,0 +1,65 @@
+//! Numbers in chains by key.
+
+ghost use Rattle.std.specs.Prelude.{◌≡◌, ◌+◌, ◌<◌, ◌^◌, ◌∷◌, ◌++◌, ℕ, [], None, Some, List, Option, OnOk, IfOk, length, replicate, slice_index_or};
+ghost use Rattle.return_search.specs.Chained.{AreChains, IsLastBelow};
+
+use ot_base::NoMemory;
+use std::alloc::Global;
+
+/// The head of a key that no number has. All numbers are less.
+const NONE: u32 = u32::MAX;
+
+/// Numbers from 0 on in chains, one for each key. A number gets its place as it is added.
+#[derive(Drop)]
+pub(crate) struct Chains {
+    /// For each key, the last number that has it, or `NONE`.
+    heads: Vec<u32>,
+    /// For each number, the number before it that has its key, or one that isn't less where there is none.
+    links: Vec<u32>,
+}
+
+impl Chains {
+    /// No number has a key yet.
+    pub(crate) fn new(alloc: Global, keys: u32) -> Result<Chains, NoMemory>
+        ensures none { IfOk result (λ chains. AreChains chains.heads.items chains.links.items []) }
+        ensures heads { IfOk result (λ chains. length chains.heads.items ≡ keys) }
+    {
+        Ok(Chains {
+            heads: vec![in alloc; NONE; keys as usize]?,
+            links: Vec::new(alloc),
+        })
+    }
+
+    /// Adds the next number, with its key. 2^32 numbers, which would take 16 GiB, are too many.
+    pub(crate) fn add(&mut self, key: u32) -> Result<(), NoMemory>
+        requires { key < length self.old.heads.items }
+        ensures added { OnOk result ((keys : List (Option ℕ)) → AreChains self.old.heads.items self.old.links.items keys → AreChains self.new.heads.items self.new.links.items (keys ++ Some key ∷ [])) }
+        ensures heads { length self.new.heads.items ≡ length self.old.heads.items }
+    {
+        if self.links.len() >= NONE as usize {
+            return Err(NoMemory);
+        }
+        let n = self.links.len() as u32;
+        self.links.push(self.heads[key as usize])?;
+        self.heads[key as usize] = n;
+        Ok(())
+    }
+
+    /// The last number that has a key.
+    pub(crate) fn last(&self, key: u32) -> Option<u32>
+        requires { key < length self.now.heads.items }
+        ensures { (keys : List (Option ℕ)) → AreChains self.now.heads.items self.now.links.items keys → IsLastBelow keys key (length keys) result }
+    {
+        let head = self.heads[key as usize];
+        if head < NONE { Some(head) } else { None }
+    }
+
+    /// The number before one that has its key.
+    pub(crate) fn before(&self, n: u32) -> Option<u32>
+        requires { n < length self.now.links.items }
+        ensures { (keys : List (Option ℕ)) (key : ℕ) → AreChains self.now.heads.items self.now.links.items keys → slice_index_or keys n None ≡ Some key → IsLastBelow keys key n result }
+    {
+        let link = self.links[n as usize];
+        if link < n { Some(link) } else { None }
+    }
+}
