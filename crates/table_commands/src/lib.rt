@@ -1,6 +1,6 @@
-//! The commands that read tables and lists back, and the one that merges tables, over files and an output that are handed in: `list` and
-//! `cfa` print what an object's site lists and its call frame information say, `merge` makes one table of the rows of many objects, and
-//! `find` looks it up.
+//! The commands that read tables and lists back (`list`, `cfa`, `find`), and the one that merges tables (`merge`). Over files and an output
+//! that are handed in, `list` and `cfa` print what an object's site lists and its call frame information say, `merge` makes one table of
+//! the rows of many objects, and `find` prints what holds at an address in it.
 #![tactic(auto)]
 
 mod finding;
