@@ -25,19 +25,12 @@ pub mod TextEnds
 pub mod UnwindingLemmas
 pub mod UsageEnds
 pub mod UsageLemmas
-pub use Rattle.objtool_cli.proofs.ListLaws
-pub use Rattle.objtool_cli.proofs.CfaLaws
-pub use Rattle.objtool_cli.proofs.FindLaws
-pub use Rattle.objtool_cli.proofs.TableLemmas
 pub mod SitesGets
-pub mod ListLaws
-pub mod SiteLines
 pub mod SitesEnds
 pub mod SitesLaws
 mod FramesGets
 mod FramesEnds
 pub mod CfiLaws
-pub mod CfaLaws
 mod OneRule
 mod Begun
 mod LastRule
@@ -50,18 +43,3 @@ pub mod EntryLaws
 mod ShowCode
 pub mod ShowLaws
 mod ShowLines
-pub mod LayoutLemmas
-pub mod ObjectLemmas
-pub mod SameParts
-pub mod TableLemmas
-pub mod MergeLaws
-pub mod FindLaws
-pub mod FoundLemmas
-mod PlaceOrder
-mod SpotLemmas
-mod HolderLemmas
-mod CaseLemmas
-mod PrintingLemmas
-mod NumberLemmas
-mod CaseLists
-mod BacktraceParts

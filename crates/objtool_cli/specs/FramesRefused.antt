@@ -1,27 +1,13 @@
--- Why `cfi` and `cfa` are refused on files that hold this: what the first step finds that fails, in the order of the steps. Faults of
--- files and of the output, and want of memory, are no refusals.
-use Rattle.std.specs.Prelude.{◌≡◌, ◌≢◌, ℕ, List, Option, Ok}
-use Rattle.ot_files.specs.Content.{Content, reading}
-use Rattle.elf_objects.specs.declared.TheConstants.{MAX_FILE_BYTES}
+-- Why `cfi` is refused on files that hold this: what the first step finds that fails, in the order of the steps. Faults of files and of
+-- the output, and want of memory, are no refusals.
+use Rattle.std.specs.Prelude.{ℕ, List, Option}
+use Rattle.ot_files.specs.Content.{Content}
 use Rattle.x86_map.specs.declared.map.Map.{Map}
-use Rattle.command_base.specs.Reading.{IsUnreadable}
 use Rattle.command_base.specs.declared.stop.CommandStop.{CommandStop}
-use Rattle.command_base.specs.declared.stop.CommandStop.TheVariants.{NoMemory}
 use Rattle.objtool_cli.specs.Inputs.{RefusesInput}
-use Rattle.objtool_cli.specs.Cfa.{SaysNoRules}
 use Rattle.objtool_cli.specs.Cfi.{GetNoFrames}
 
 -- `cfi IN OUT`: IN is read; then the names file, where one is given, and its lines; then the bytes of IN are parsed, their code is read
 -- and checked, and the call frame information is made of what breaks no rule.
 abbrev pub RefusesCfi : Map → List ℕ → Option (List ℕ) → Content → CommandStop → Type 0
 RefusesCfi map input names held = RefusesInput (λ read lists stop. GetNoFrames map read lists stop) input names held
-
--- `cfa FILE`: FILE is read and parsed, and then its call frame information is.
-pub data RefusesCfa (file : List ℕ) (held : Content) : CommandStop → Type 0 where
-  object_unread : {stop : CommandStop} → IsUnreadable MAX_FILE_BYTES held file stop → RefusesCfa file held stop
-  without_rules :
-      {stop : CommandStop} (bytes : List ℕ)
-      → reading held file MAX_FILE_BYTES ≡ Ok bytes
-      → SaysNoRules bytes stop
-      → stop ≢ NoMemory
-      → RefusesCfa file held stop

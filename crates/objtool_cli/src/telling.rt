@@ -9,9 +9,9 @@ ghost use Rattle.flow_defs.specs.Coded.{coded_by};
 ghost use Rattle.objtool_cli.specs.Checked.{allowances_under, program_under};
 ghost use Rattle.objtool_cli.specs.Telling.{TellsWarnings};
 
-use crate::backtrace_printing::print_backtraces;
 use crate::check::check_stop;
 use crate::words::Check;
+use backtraces::print_backtraces;
 use cli_words::CheckOptions;
 use command_base::{Status, conclude, print_warnings};
 use elf_objects::{MAX_FILE_BYTES, Object};

@@ -1,0 +1,8 @@
+mod PlaceOrder
+mod SpotLemmas
+mod HolderLemmas
+mod CaseLemmas
+mod PrintingLemmas
+mod NumberLemmas
+mod CaseLists
+mod BacktraceParts

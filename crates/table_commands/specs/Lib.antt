@@ -1,0 +1,11 @@
+pub mod List
+pub mod ListRefused
+pub mod Cfa
+pub mod CfaRefused
+pub mod Layouts
+pub mod MergedObjects
+pub mod Alike
+pub mod Merge
+pub mod Find
+pub mod MergeRefused
+pub mod MergeLaws
