@@ -5,7 +5,7 @@ use Rattle.flow_defs.specs.Coded.{Coded}
 use Rattle.machine_defs.specs.declared.flow.Edge.{Edge}
 use Rattle.control_flow.specs.Listed.{AreEdges, count_of}
 use Rattle.control_flow.specs.Returns.{AreReturns}
-use Rattle.control_flow.specs.declared.found_returns.Returns.{Returns}
+use Rattle.return_search.specs.declared.found_returns.Returns.{Returns}
 
 -- it is told from which points a return may come as it follows from the edges that are listed, of which these points have
 -- those of another

@@ -9,11 +9,10 @@ ghost use Rattle.control_flow.specs.Listed.{AreEntered, count_of};
 ghost use Rattle.control_flow.specs.Numbers.{HaveNumbers};
 ghost use Rattle.control_flow.specs.Points.{AreMade};
 ghost use Rattle.control_flow.specs.Rares.{AreRares};
-ghost use Rattle.control_flow.specs.Shape.{HaveShape as HaveReturnShape};
+ghost use Rattle.return_search.specs.Shape.{HaveShape as HaveReturnShape};
 ghost use Rattle.control_flow.specs.Transfers.{IsTransferOf};
 ghost use Rattle.control_flow.specs.Ways.{AreWays};
 
-use crate::Returns;
 use crate::hinted::restores_are_points;
 use crate::outgoing::{Outgoing, list_outgoing};
 use crate::points::{PointList, list_points};
@@ -26,6 +25,7 @@ use object_points::{
 use ot_base::{Lists, NoMemory, Place};
 use point_edges::FlowPoints;
 use program_graph::{GraphParts, GraphSite, Owner, TextSection};
+use return_search::Returns;
 use std::alloc::Global;
 
 /// Where control goes.
