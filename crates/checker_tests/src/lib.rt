@@ -1,8 +1,12 @@
-//! Tests of the checker and of the rules that options ask for, over programs of a few points: against the plain reading
-//! of the definitions, and against warnings and runs that are written by hand.
+//! Tests of the checker that no command shows: states by number, the rules of a state, and how many different states are kept of
+//! objects that `demo` makes.
 #![tactic(auto)]
 
 #[cfg(test)]
-mod checker;
+mod numbers;
 #[cfg(test)]
-mod options;
+mod readings;
+#[cfg(test)]
+mod rules;
+#[cfg(test)]
+mod states;

@@ -5,3 +5,5 @@ pub mod Frames
 pub mod Hints
 pub mod Lines
 pub mod Misses
+pub mod Siblings
+pub mod Top

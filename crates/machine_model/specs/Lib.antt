@@ -5,3 +5,5 @@ pub mod Hint
 pub mod Called
 pub mod Left
 pub mod Steps
+pub mod Allowed
+pub mod Promise

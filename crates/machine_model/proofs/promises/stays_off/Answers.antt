@@ -1,0 +1,10 @@
+use Rattle.std.proofs.Common.{sym, ap, ◌∙◌}
+use Rattle.state_defs.specs.Frame.{Frame}
+use Rattle.machine_model.proofs.Top.{top_is, first_removed}
+use Rattle.machine_model.proofs.promises.stays_off.Goals as goal
+
+pub returns-in-len1-up : goal.returns-in-len1-up
+returns-in-len1-up c = (
+  λ h f fs e safe off. c.is_off.ensures.0 h safe (sym (ap (λ (g : Frame). g.ac) (top_is c.args.shadow.now _ f fs c.in-len1-up.len_at_least e)) ∙ off),
+  λ h. c.is_off.ensures.1 (λ safe off. h _ _ (first_removed c.args.shadow.now _ c.in-len1-up.len_at_least) safe off),
+)

@@ -1,0 +1,165 @@
+//! What options ask for. By these rules no run's stack goes wrong; runs that break what `--fp` promises of calls are in
+//! `promises`.
+
+use crate::case::{Broken, End};
+use crate::expect::expect_broken;
+use machine_defs::Role;
+use operation_defs::Op;
+use ot_base::{Options, rules};
+use stack_examples::lines::{Table, With};
+
+/// Unreachable instructions are asked for, frame pointers, or both.
+const UNREACHABLE: Options = Options {
+    fp: false,
+    retpoline: false,
+    rethunk: false,
+    uaccess: false,
+    unreachable: true,
+};
+
+const FP: Options = Options {
+    fp: true,
+    retpoline: false,
+    rethunk: false,
+    uaccess: false,
+    unreachable: false,
+};
+
+const BOTH: Options = Options {
+    fp: true,
+    retpoline: false,
+    rethunk: false,
+    uaccess: false,
+    unreachable: true,
+};
+
+const UNREACHED_TABLE: Table = Table {
+    rows: &[
+        (0, 1, Op::Ret, &[]),
+        (1, 1, Op::Nop, &[]),
+        (2, 1, Op::Push, &[]),
+        (3, 1, Op::Pop, &[]),
+        (4, 1, Op::Ret, &[]),
+        (5, 1, Op::Int3, &[]),
+    ],
+    entries: &[0],
+    sites: &[],
+};
+
+const UNREACHED: Broken = Broken {
+    name: "unreached instructions, of which the first is told, and nop and int3 are not",
+    table: UNREACHED_TABLE,
+    options: UNREACHABLE,
+    warnings: &[(2, rules::UNREACHABLE_INSTRUCTION, 0, 0)],
+    run: End::IsNotRun,
+};
+
+const UNREACHED_OF_NONE: Broken = Broken {
+    name: "unreached instructions of no function, of which the first is told",
+    table: Table {
+        rows: &[
+            (0, 1, Op::Nop, &[With::OfNone]),
+            (1, 1, Op::Push, &[With::OfNone]),
+            (2, 1, Op::Pop, &[With::OfNone]),
+            (3, 1, Op::Ret, &[With::OfNone]),
+        ],
+        entries: &[],
+        sites: &[],
+    },
+    options: UNREACHABLE,
+    warnings: &[(1, rules::UNREACHABLE_INSTRUCTION, 0, 0)],
+    run: End::IsNotRun,
+};
+
+const UNREACHED_IN_PATCHES: Broken = Broken {
+    name: "instructions of no function to which control comes by patching alone",
+    table: Table {
+        rows: &[
+            (0, 1, Op::Nop, &[With::OfNone, With::InPatches]),
+            (1, 1, Op::Push, &[With::OfNone, With::InPatches]),
+            (2, 1, Op::Ret, &[With::OfNone, With::InPatches]),
+        ],
+        entries: &[],
+        sites: &[],
+    },
+    options: UNREACHABLE,
+    warnings: &[],
+    run: End::IsNotRun,
+};
+
+const UNREACHED_UNASKED: Broken = Broken {
+    name: "unreached instructions, where they aren't asked for",
+    options: FP,
+    warnings: &[],
+    table: UNREACHED_TABLE,
+    run: End::IsNotRun,
+};
+
+const WITHOUT_FRAME_TABLE: Table = Table {
+    rows: &[
+        (
+            0,
+            5,
+            Op::Call { rel: 0 },
+            &[With::Is(Role::CallOut { sym: 7 })],
+        ),
+        (5, 1, Op::PushBp, &[]),
+        (6, 3, Op::LeaBpSp { by: 0 }, &[]),
+        (
+            9,
+            5,
+            Op::Call { rel: 0 },
+            &[With::Is(Role::CallOut { sym: 7 })],
+        ),
+        (14, 1, Op::PopBp, &[]),
+        (15, 1, Op::Ret, &[]),
+    ],
+    entries: &[0],
+    sites: &[],
+};
+
+const WITHOUT_FRAME: Broken = Broken {
+    name: "a call without a frame, and one with a frame",
+    table: WITHOUT_FRAME_TABLE,
+    options: BOTH,
+    warnings: &[(0, rules::CALL_WITHOUT_FRAME, 0, 0)],
+    run: End::IsNotRun,
+};
+
+const WITHOUT_FRAME_UNASKED: Broken = Broken {
+    name: "a call without a frame, where frames aren't asked for",
+    options: UNREACHABLE,
+    warnings: &[],
+    table: WITHOUT_FRAME_TABLE,
+    run: End::IsNotRun,
+};
+
+#[test]
+fn warns_of_unreached(rt: HostRuntime) {
+    expect_broken(&rt, rt.alloc(), &UNREACHED);
+}
+
+#[test]
+fn warns_of_unreached_of_none(rt: HostRuntime) {
+    expect_broken(&rt, rt.alloc(), &UNREACHED_OF_NONE);
+}
+
+#[test]
+fn warns_of_unreached_in_patches(rt: HostRuntime) {
+    expect_broken(&rt, rt.alloc(), &UNREACHED_IN_PATCHES);
+}
+
+#[test]
+fn warns_of_unreached_unasked(rt: HostRuntime) {
+    expect_broken(&rt, rt.alloc(), &UNREACHED_UNASKED);
+}
+
+#[test]
+fn warns_of_without_frame(rt: HostRuntime) {
+    expect_broken(&rt, rt.alloc(), &WITHOUT_FRAME);
+}
+
+#[test]
+fn warns_of_without_frame_unasked(rt: HostRuntime) {
+    expect_broken(&rt, rt.alloc(), &WITHOUT_FRAME_UNASKED);
+}

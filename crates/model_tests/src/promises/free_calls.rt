@@ -1,0 +1,99 @@
+//! Rule 41 where code of no function is called, which has no name that could be listed.
+
+use super::case::{Example, How, NEXT, NOTHING, Pair, RBP, UACCESS, UNSAFE, UNSAFE_IN_UNSAFE};
+use super::expect::expect_pair;
+use machine_defs::{EdgeKind, Role};
+use machine_model::Promise;
+use operation_defs::Op;
+use ot_base::rules;
+use stack_examples::lines::{Row, Table, With};
+use state_defs::{BpHome, Depth, HintState, State};
+
+/// A jump.
+const JMP: Op = Op::Jmp {
+    rel: 0,
+    wide: false,
+};
+
+const TAKEN: How = How::Goes(EdgeKind::Taken);
+
+/// Code of no function that is called, where a hint tells the stack as at an entry.
+const CALLED: Row = (
+    16,
+    1,
+    Op::Ret,
+    &[
+        With::OfNone,
+        With::Hint(HintState::Set(State::Live {
+            depth: Depth::Known(8),
+            fp: None,
+            bp: BpHome::Same,
+        })),
+    ],
+);
+
+const CALL: Row = (
+    6,
+    5,
+    Op::Call { rel: 5 },
+    &[With::OfNone, With::Is(Role::CallIn { entry: 6 })],
+);
+
+/// f jumps to code of no function, which turns user access on, calls such code, turns it off and jumps back.
+const CALLS_NONE: Pair = Pair {
+    name: "a call between code of no function",
+    options: UACCESS,
+    wrong: Example {
+        table: Table {
+            rows: &[
+                (0, 2, JMP, &[With::To(3, EdgeKind::Taken)]),
+                (2, 1, Op::Ret, &[]),
+                (3, 3, Op::Stac, &[With::OfNone]),
+                CALL,
+                (11, 3, Op::Clac, &[With::OfNone]),
+                (14, 2, JMP, &[With::OfNone, With::To(2, EdgeKind::Taken)]),
+                CALLED,
+            ],
+            entries: &[0],
+            sites: &[],
+        },
+        allowed: NOTHING,
+        from: (0, 0x80F8, RBP, false, UNSAFE),
+        steps: &[
+            (TAKEN, (2, 0x80F8, RBP, false, UNSAFE)),
+            (NEXT, (3, 0x80F8, RBP, true, UNSAFE)),
+        ],
+    },
+    warnings: &[(6, rules::CALL_WITH_ACCESS, -1)],
+    broken: &[Promise::SafeTarget],
+    repaired: Example {
+        table: Table {
+            rows: &[
+                (0, 2, JMP, &[With::To(3, EdgeKind::Taken)]),
+                (2, 1, Op::Ret, &[]),
+                (3, 3, Op::Nop, &[With::OfNone]),
+                CALL,
+                (11, 3, Op::Nop, &[With::OfNone]),
+                (14, 2, JMP, &[With::OfNone, With::To(2, EdgeKind::Taken)]),
+                CALLED,
+            ],
+            entries: &[0],
+            sites: &[],
+        },
+        allowed: NOTHING,
+        from: (0, 0x80F8, RBP, false, UNSAFE),
+        steps: &[
+            (TAKEN, (2, 0x80F8, RBP, false, UNSAFE)),
+            (NEXT, (3, 0x80F8, RBP, false, UNSAFE)),
+            (How::Calls, (6, 0x80F0, RBP, false, UNSAFE_IN_UNSAFE)),
+            (How::Returns, (4, 0x80F8, RBP, false, UNSAFE)),
+            (NEXT, (5, 0x80F8, RBP, false, UNSAFE)),
+            (TAKEN, (1, 0x80F8, RBP, false, UNSAFE)),
+        ],
+    },
+};
+
+#[test]
+fn a_call_between_code_of_no_function(rt: HostRuntime) {
+    expect_pair(&rt, rt.alloc(), &CALLS_NONE);
+}

@@ -1,0 +1,147 @@
+//! Programs that break a rule by which no run of them goes wrong.
+
+use super::case::{
+    Example, Harmless, NEXT, NOTHING, RBP, RETHUNK, RETPOLINE, SAFE, UACCESS, UNSAFE,
+};
+use super::expect::expect_harmless;
+use machine_defs::Role;
+use machine_model::Allowed;
+use operation_defs::Op;
+use ot_base::rules;
+use stack_examples::lines::{Table, With};
+
+/// 0F 01 CA C3: user access is off already.
+const OFF_TWICE: Harmless = Harmless {
+    name: "user access turned off twice",
+    options: UACCESS,
+    example: Example {
+        table: Table {
+            rows: &[(0, 3, Op::Clac, &[]), (3, 1, Op::Ret, &[])],
+            entries: &[0],
+            sites: &[],
+        },
+        allowed: NOTHING,
+        from: (0, 0x80F8, RBP, false, UNSAFE),
+        steps: &[(NEXT, (1, 0x80F8, RBP, false, UNSAFE))],
+    },
+    warnings: &[(0, rules::ACCESS_OFF_TWICE, 0)],
+};
+
+/// 0F 01 CB 0F 01 CB 0F 01 CA C3: user access is on already, since f isn't safe and turned it on.
+const ON_TWICE: Harmless = Harmless {
+    name: "user access turned on twice in a function that isn't safe",
+    options: UACCESS,
+    example: Example {
+        table: Table {
+            rows: &[
+                (0, 3, Op::Stac, &[]),
+                (3, 3, Op::Stac, &[]),
+                (6, 3, Op::Clac, &[]),
+                (9, 1, Op::Ret, &[]),
+            ],
+            entries: &[0],
+            sites: &[],
+        },
+        allowed: NOTHING,
+        from: (0, 0x80F8, RBP, false, UNSAFE),
+        steps: &[
+            (NEXT, (1, 0x80F8, RBP, true, UNSAFE)),
+            (NEXT, (2, 0x80F8, RBP, true, UNSAFE)),
+            (NEXT, (3, 0x80F8, RBP, false, UNSAFE)),
+        ],
+    },
+    warnings: &[(3, rules::ACCESS_ON_TWICE, 0)],
+};
+
+/// 0F 01 CA 0F 01 CB C3: f is safe, and called with user access on, which it restores.
+const OFF_AND_ON: Harmless = Harmless {
+    name: "user access turned off and on in a safe function that was called with it on",
+    options: UACCESS,
+    example: Example {
+        table: Table {
+            rows: &[
+                (0, 3, Op::Clac, &[]),
+                (3, 3, Op::Stac, &[]),
+                (6, 1, Op::Ret, &[]),
+            ],
+            entries: &[0],
+            sites: &[],
+        },
+        allowed: Allowed {
+            safe_branches: &[],
+            safe_names: &[0],
+            lacking_smap: &[],
+        },
+        from: (0, 0x80F8, RBP, true, SAFE),
+        steps: &[
+            (NEXT, (1, 0x80F8, RBP, false, SAFE)),
+            (NEXT, (2, 0x80F8, RBP, true, SAFE)),
+        ],
+    },
+    warnings: &[(0, rules::SAFE_FUNCTION_ACCESS_OFF, 0)],
+};
+
+/// C3 FF E0: no run comes to the jump.
+const UNREACHED_JUMP: Harmless = Harmless {
+    name: "an indirect jump that isn't reached",
+    options: RETPOLINE,
+    example: Example {
+        table: Table {
+            rows: &[
+                (0, 1, Op::Ret, &[]),
+                (1, 2, Op::JmpInd { table: None }, &[With::Is(Role::JumpAny)]),
+            ],
+            entries: &[0],
+            sites: &[],
+        },
+        allowed: NOTHING,
+        from: (0, 0x80F8, RBP, false, UNSAFE),
+        steps: &[],
+    },
+    warnings: &[(1, rules::INDIRECT_BRANCH, 0)],
+};
+
+/// FF E0 C3: no run comes to the return.
+const UNREACHED_RETURN: Harmless = Harmless {
+    name: "a return that isn't reached",
+    options: RETHUNK,
+    example: Example {
+        table: Table {
+            rows: &[
+                (0, 2, Op::JmpInd { table: None }, &[With::Is(Role::JumpAny)]),
+                (2, 1, Op::Ret, &[]),
+            ],
+            entries: &[0],
+            sites: &[],
+        },
+        allowed: NOTHING,
+        from: (0, 0x80F8, RBP, false, UNSAFE),
+        steps: &[],
+    },
+    warnings: &[(2, rules::NAKED_RETURN, 0)],
+};
+
+#[test]
+fn access_off_twice(rt: HostRuntime) {
+    expect_harmless(&rt, rt.alloc(), &OFF_TWICE);
+}
+
+#[test]
+fn access_on_twice(rt: HostRuntime) {
+    expect_harmless(&rt, rt.alloc(), &ON_TWICE);
+}
+
+#[test]
+fn access_off_in_a_safe_function_called_with_access(rt: HostRuntime) {
+    expect_harmless(&rt, rt.alloc(), &OFF_AND_ON);
+}
+
+#[test]
+fn an_unreached_jump(rt: HostRuntime) {
+    expect_harmless(&rt, rt.alloc(), &UNREACHED_JUMP);
+}
+
+#[test]
+fn an_unreached_return(rt: HostRuntime) {
+    expect_harmless(&rt, rt.alloc(), &UNREACHED_RETURN);
+}

@@ -1,2 +1,0 @@
-pub mod Siblings
-pub mod Top
