@@ -239,16 +239,8 @@ const STRICT_RESTORE: Accepted = Accepted {
 };
 
 #[test]
-fn accepts_two_variants(rt: HostRuntime) {
+fn programs_are_accepted(rt: HostRuntime) {
     expect_accepted(&rt, rt.alloc(), &TWO_VARIANTS);
-}
-
-#[test]
-fn accepts_slow_path(rt: HostRuntime) {
     expect_accepted(&rt, rt.alloc(), &SLOW_PATH);
-}
-
-#[test]
-fn accepts_strict_restore(rt: HostRuntime) {
     expect_accepted(&rt, rt.alloc(), &STRICT_RESTORE);
 }

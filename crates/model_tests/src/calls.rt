@@ -206,16 +206,8 @@ const END_OF_THE_STACK: Accepted = Accepted {
 };
 
 #[test]
-fn accepts_call_that_never_returns(rt: HostRuntime) {
+fn programs_are_accepted(rt: HostRuntime) {
     expect_accepted(&rt, rt.alloc(), &CALL_THAT_NEVER_RETURNS);
-}
-
-#[test]
-fn accepts_calls_anywhere(rt: HostRuntime) {
     expect_accepted(&rt, rt.alloc(), &CALLS_ANYWHERE);
-}
-
-#[test]
-fn accepts_end_of_the_stack(rt: HostRuntime) {
     expect_accepted(&rt, rt.alloc(), &END_OF_THE_STACK);
 }

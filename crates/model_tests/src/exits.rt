@@ -137,36 +137,12 @@ const SYSTEM_CALL: Broken = Broken {
 };
 
 #[test]
-fn warns_of_return(rt: HostRuntime) {
+fn programs_break_their_rules(rt: HostRuntime) {
     expect_broken(&rt, rt.alloc(), &RETURN);
-}
-
-#[test]
-fn warns_of_drops_bytes(rt: HostRuntime) {
     expect_broken(&rt, rt.alloc(), &DROPS_BYTES);
-}
-
-#[test]
-fn warns_of_jump(rt: HostRuntime) {
     expect_broken(&rt, rt.alloc(), &JUMP);
-}
-
-#[test]
-fn warns_of_jump_out(rt: HostRuntime) {
     expect_broken(&rt, rt.alloc(), &JUMP_OUT);
-}
-
-#[test]
-fn warns_of_gate_jumps(rt: HostRuntime) {
     expect_broken(&rt, rt.alloc(), &GATE_JUMPS);
-}
-
-#[test]
-fn warns_of_iret(rt: HostRuntime) {
     expect_broken(&rt, rt.alloc(), &IRET);
-}
-
-#[test]
-fn warns_of_system_call(rt: HostRuntime) {
     expect_broken(&rt, rt.alloc(), &SYSTEM_CALL);
 }

@@ -359,31 +359,11 @@ const JUMP_TABLE: Accepted = Accepted {
 };
 
 #[test]
-fn accepts_frame_pointer(rt: HostRuntime) {
+fn programs_are_accepted(rt: HostRuntime) {
     expect_accepted(&rt, rt.alloc(), &FRAME_POINTER);
-}
-
-#[test]
-fn accepts_ordinary_bp(rt: HostRuntime) {
     expect_accepted(&rt, rt.alloc(), &ORDINARY_BP);
-}
-
-#[test]
-fn accepts_cold_part(rt: HostRuntime) {
     expect_accepted(&rt, rt.alloc(), &COLD_PART);
-}
-
-#[test]
-fn accepts_fixup(rt: HostRuntime) {
     expect_accepted(&rt, rt.alloc(), &FIXUP);
-}
-
-#[test]
-fn accepts_static_branch(rt: HostRuntime) {
     expect_accepted(&rt, rt.alloc(), &STATIC_BRANCH);
-}
-
-#[test]
-fn accepts_jump_table(rt: HostRuntime) {
     expect_accepted(&rt, rt.alloc(), &JUMP_TABLE);
 }

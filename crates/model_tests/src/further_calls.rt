@@ -194,31 +194,15 @@ const UNLISTED_CALL: Broken = Broken {
 };
 
 #[test]
-fn accepts_free_call(rt: HostRuntime) {
+fn programs_are_accepted(rt: HostRuntime) {
     expect_accepted(&rt, rt.alloc(), &FREE_CALL);
-}
-
-#[test]
-fn warns_of_untold_call(rt: HostRuntime) {
-    expect_broken(&rt, rt.alloc(), &UNTOLD_CALL);
-}
-
-#[test]
-fn accepts_call_within(rt: HostRuntime) {
     expect_accepted(&rt, rt.alloc(), &CALL_WITHIN);
-}
-
-#[test]
-fn warns_of_not_dropped(rt: HostRuntime) {
-    expect_broken(&rt, rt.alloc(), &NOT_DROPPED);
-}
-
-#[test]
-fn accepts_listed_call(rt: HostRuntime) {
     expect_accepted(&rt, rt.alloc(), &LISTED_CALL);
 }
 
 #[test]
-fn warns_of_unlisted_call(rt: HostRuntime) {
+fn programs_break_their_rules(rt: HostRuntime) {
+    expect_broken(&rt, rt.alloc(), &UNTOLD_CALL);
+    expect_broken(&rt, rt.alloc(), &NOT_DROPPED);
     expect_broken(&rt, rt.alloc(), &UNLISTED_CALL);
 }

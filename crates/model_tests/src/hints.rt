@@ -107,11 +107,7 @@ const CALL_FRAME_BY_A_HINT: Accepted = Accepted {
 };
 
 #[test]
-fn accepts_save_and_restore(rt: HostRuntime) {
+fn programs_are_accepted(rt: HostRuntime) {
     expect_accepted(&rt, rt.alloc(), &SAVE_AND_RESTORE);
-}
-
-#[test]
-fn accepts_call_frame_by_a_hint(rt: HostRuntime) {
     expect_accepted(&rt, rt.alloc(), &CALL_FRAME_BY_A_HINT);
 }

@@ -273,16 +273,8 @@ const IRET_TO_ITSELF: Accepted = Accepted {
 };
 
 #[test]
-fn accepts_prologue_and_gates(rt: HostRuntime) {
+fn programs_are_accepted(rt: HostRuntime) {
     expect_accepted(&rt, rt.alloc(), &PROLOGUE_AND_GATES);
-}
-
-#[test]
-fn accepts_outside_interrupted(rt: HostRuntime) {
     expect_accepted(&rt, rt.alloc(), &OUTSIDE_INTERRUPTED);
-}
-
-#[test]
-fn accepts_iret_to_itself(rt: HostRuntime) {
     expect_accepted(&rt, rt.alloc(), &IRET_TO_ITSELF);
 }

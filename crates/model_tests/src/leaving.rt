@@ -214,41 +214,17 @@ const RUNS_OFF: Broken = Broken {
 };
 
 #[test]
-fn accepts_ended_leaves(rt: HostRuntime) {
+fn programs_are_accepted(rt: HostRuntime) {
     expect_accepted(&rt, rt.alloc(), &ENDED_LEAVES);
-}
-
-#[test]
-fn accepts_gate_leaves(rt: HostRuntime) {
     expect_accepted(&rt, rt.alloc(), &GATE_LEAVES);
-}
-
-#[test]
-fn accepts_ended_stays(rt: HostRuntime) {
     expect_accepted(&rt, rt.alloc(), &ENDED_STAYS);
-}
-
-#[test]
-fn accepts_ended_runs_off(rt: HostRuntime) {
     expect_accepted(&rt, rt.alloc(), &ENDED_RUNS_OFF);
 }
 
 #[test]
-fn warns_of_ended_function_returns(rt: HostRuntime) {
+fn programs_break_their_rules(rt: HostRuntime) {
     expect_broken(&rt, rt.alloc(), &ENDED_FUNCTION_RETURNS);
-}
-
-#[test]
-fn warns_of_gate_drops_bytes(rt: HostRuntime) {
     expect_broken(&rt, rt.alloc(), &GATE_DROPS_BYTES);
-}
-
-#[test]
-fn warns_of_ended_jumps(rt: HostRuntime) {
     expect_broken(&rt, rt.alloc(), &ENDED_JUMPS);
-}
-
-#[test]
-fn warns_of_runs_off(rt: HostRuntime) {
     expect_broken(&rt, rt.alloc(), &RUNS_OFF);
 }

@@ -215,41 +215,13 @@ const IRET_TOO_HIGH: Broken = Broken {
 };
 
 #[test]
-fn warns_of_sp_written(rt: HostRuntime) {
+fn programs_break_their_rules(rt: HostRuntime) {
     expect_broken(&rt, rt.alloc(), &SP_WRITTEN);
-}
-
-#[test]
-fn warns_of_bp_written(rt: HostRuntime) {
     expect_broken(&rt, rt.alloc(), &BP_WRITTEN);
-}
-
-#[test]
-fn warns_of_sp_aligned(rt: HostRuntime) {
     expect_broken(&rt, rt.alloc(), &SP_ALIGNED);
-}
-
-#[test]
-fn warns_of_saved_slot_popped(rt: HostRuntime) {
     expect_broken(&rt, rt.alloc(), &SAVED_SLOT_POPPED);
-}
-
-#[test]
-fn warns_of_leave_unsaved(rt: HostRuntime) {
     expect_broken(&rt, rt.alloc(), &LEAVE_UNSAVED);
-}
-
-#[test]
-fn warns_of_far(rt: HostRuntime) {
     expect_broken(&rt, rt.alloc(), &FAR);
-}
-
-#[test]
-fn warns_of_unfit(rt: HostRuntime) {
     expect_broken(&rt, rt.alloc(), &UNFIT);
-}
-
-#[test]
-fn warns_of_iret_too_high(rt: HostRuntime) {
     expect_broken(&rt, rt.alloc(), &IRET_TOO_HIGH);
 }

@@ -135,31 +135,11 @@ const WITHOUT_FRAME_UNASKED: Broken = Broken {
 };
 
 #[test]
-fn warns_of_unreached(rt: HostRuntime) {
+fn programs_break_their_rules(rt: HostRuntime) {
     expect_broken(&rt, rt.alloc(), &UNREACHED);
-}
-
-#[test]
-fn warns_of_unreached_of_none(rt: HostRuntime) {
     expect_broken(&rt, rt.alloc(), &UNREACHED_OF_NONE);
-}
-
-#[test]
-fn warns_of_unreached_in_patches(rt: HostRuntime) {
     expect_broken(&rt, rt.alloc(), &UNREACHED_IN_PATCHES);
-}
-
-#[test]
-fn warns_of_unreached_unasked(rt: HostRuntime) {
     expect_broken(&rt, rt.alloc(), &UNREACHED_UNASKED);
-}
-
-#[test]
-fn warns_of_without_frame(rt: HostRuntime) {
     expect_broken(&rt, rt.alloc(), &WITHOUT_FRAME);
-}
-
-#[test]
-fn warns_of_without_frame_unasked(rt: HostRuntime) {
     expect_broken(&rt, rt.alloc(), &WITHOUT_FRAME_UNASKED);
 }

@@ -156,31 +156,11 @@ const RESTORE_AT_AN_ENTRY: Broken = Broken {
 };
 
 #[test]
-fn warns_of_variants(rt: HostRuntime) {
+fn programs_break_their_rules(rt: HostRuntime) {
     expect_broken(&rt, rt.alloc(), &VARIANTS);
-}
-
-#[test]
-fn warns_of_call_in_a_site(rt: HostRuntime) {
     expect_broken(&rt, rt.alloc(), &CALL_IN_A_SITE);
-}
-
-#[test]
-fn warns_of_restore_in_a_site(rt: HostRuntime) {
     expect_broken(&rt, rt.alloc(), &RESTORE_IN_A_SITE);
-}
-
-#[test]
-fn warns_of_restore_behind_a_nop(rt: HostRuntime) {
     expect_broken(&rt, rt.alloc(), &RESTORE_BEHIND_A_NOP);
-}
-
-#[test]
-fn warns_of_restore_at_an_entry(rt: HostRuntime) {
     expect_broken(&rt, rt.alloc(), &RESTORE_AT_AN_ENTRY);
-}
-
-#[test]
-fn warns_of_unsized(rt: HostRuntime) {
     expect_broken(&rt, rt.alloc(), &UNSIZED);
 }

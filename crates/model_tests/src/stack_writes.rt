@@ -294,36 +294,16 @@ const JOINED: Broken = Broken {
 };
 
 #[test]
-fn accepts_before_hint(rt: HostRuntime) {
+fn programs_are_accepted(rt: HostRuntime) {
     expect_accepted(&rt, rt.alloc(), &BEFORE_HINT);
-}
-
-#[test]
-fn warns_of_before_save(rt: HostRuntime) {
-    expect_broken(&rt, rt.alloc(), &BEFORE_SAVE);
-}
-
-#[test]
-fn accepts_comes_back(rt: HostRuntime) {
     expect_accepted(&rt, rt.alloc(), &COMES_BACK);
-}
-
-#[test]
-fn accepts_makes_room(rt: HostRuntime) {
     expect_accepted(&rt, rt.alloc(), &MAKES_ROOM);
 }
 
 #[test]
-fn warns_of_no_base(rt: HostRuntime) {
+fn programs_break_their_rules(rt: HostRuntime) {
+    expect_broken(&rt, rt.alloc(), &BEFORE_SAVE);
     expect_broken(&rt, rt.alloc(), &NO_BASE);
-}
-
-#[test]
-fn warns_of_popped(rt: HostRuntime) {
     expect_broken(&rt, rt.alloc(), &POPPED);
-}
-
-#[test]
-fn warns_of_joined(rt: HostRuntime) {
     expect_broken(&rt, rt.alloc(), &JOINED);
 }

@@ -190,36 +190,12 @@ const MISMATCH: Broken = Broken {
 };
 
 #[test]
-fn warns_of_bad_target(rt: HostRuntime) {
+fn programs_break_their_rules(rt: HostRuntime) {
     expect_broken(&rt, rt.alloc(), &BAD_TARGET);
-}
-
-#[test]
-fn warns_of_past_end(rt: HostRuntime) {
     expect_broken(&rt, rt.alloc(), &PAST_END);
-}
-
-#[test]
-fn warns_of_into_site(rt: HostRuntime) {
     expect_broken(&rt, rt.alloc(), &INTO_SITE);
-}
-
-#[test]
-fn warns_of_into_function(rt: HostRuntime) {
     expect_broken(&rt, rt.alloc(), &INTO_FUNCTION);
-}
-
-#[test]
-fn warns_of_relocated(rt: HostRuntime) {
     expect_broken(&rt, rt.alloc(), &RELOCATED);
-}
-
-#[test]
-fn warns_of_falls_through(rt: HostRuntime) {
     expect_broken(&rt, rt.alloc(), &FALLS_THROUGH);
-}
-
-#[test]
-fn warns_of_mismatch(rt: HostRuntime) {
     expect_broken(&rt, rt.alloc(), &MISMATCH);
 }

@@ -216,26 +216,10 @@ const RETURN_BY_THUNK: Pair = Pair {
 };
 
 #[test]
-fn an_indirect_call(rt: HostRuntime) {
+fn repairs_keep_promises(rt: HostRuntime) {
     expect_pair(&rt, rt.alloc(), &CALL);
-}
-
-#[test]
-fn an_indirect_jump(rt: HostRuntime) {
     expect_pair(&rt, rt.alloc(), &JUMP);
-}
-
-#[test]
-fn a_jump_through_a_table(rt: HostRuntime) {
     expect_pair(&rt, rt.alloc(), &TABLE_JUMP);
-}
-
-#[test]
-fn a_return(rt: HostRuntime) {
     expect_pair(&rt, rt.alloc(), &RETURN);
-}
-
-#[test]
-fn a_return_by_the_thunk(rt: HostRuntime) {
     expect_pair(&rt, rt.alloc(), &RETURN_BY_THUNK);
 }

@@ -405,46 +405,14 @@ const IN_SITES: Pair = Pair {
 };
 
 #[test]
-fn a_function_of_the_object(rt: HostRuntime) {
+fn repairs_keep_promises(rt: HostRuntime) {
     expect_pair(&rt, rt.alloc(), &INSIDE);
-}
-
-#[test]
-fn a_weak_symbol_inside(rt: HostRuntime) {
     expect_pair(&rt, rt.alloc(), &WEAK_INSIDE);
-}
-
-#[test]
-fn a_weak_symbol_outside(rt: HostRuntime) {
     expect_pair(&rt, rt.alloc(), &WEAK_OUTSIDE);
-}
-
-#[test]
-fn a_symbol_outside(rt: HostRuntime) {
     expect_pair(&rt, rt.alloc(), &OUTSIDE);
-}
-
-#[test]
-fn an_indirect_call(rt: HostRuntime) {
     expect_pair(&rt, rt.alloc(), &INDIRECT);
-}
-
-#[test]
-fn a_tail_call(rt: HostRuntime) {
     expect_pair(&rt, rt.alloc(), &TAIL_CALL);
-}
-
-#[test]
-fn a_jump_outside(rt: HostRuntime) {
     expect_pair(&rt, rt.alloc(), &JUMP_OUTSIDE);
-}
-
-#[test]
-fn an_indirect_jump(rt: HostRuntime) {
     expect_pair(&rt, rt.alloc(), &JUMP_ANYWHERE);
-}
-
-#[test]
-fn a_call_between_sites(rt: HostRuntime) {
     expect_pair(&rt, rt.alloc(), &IN_SITES);
 }

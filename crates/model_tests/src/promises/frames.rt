@@ -201,16 +201,8 @@ const SAVED_ELSEWHERE: Pair = Pair {
 };
 
 #[test]
-fn a_call_where_rbp_is_not_set_up(rt: HostRuntime) {
+fn repairs_keep_promises(rt: HostRuntime) {
     expect_pair(&rt, rt.alloc(), &NOT_SET_UP);
-}
-
-#[test]
-fn a_call_below_a_word(rt: HostRuntime) {
     expect_pair(&rt, rt.alloc(), &BELOW_A_WORD);
-}
-
-#[test]
-fn a_call_where_rbp_is_saved_elsewhere(rt: HostRuntime) {
     expect_pair(&rt, rt.alloc(), &SAVED_ELSEWHERE);
 }

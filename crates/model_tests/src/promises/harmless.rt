@@ -122,26 +122,10 @@ const UNREACHED_RETURN: Harmless = Harmless {
 };
 
 #[test]
-fn access_off_twice(rt: HostRuntime) {
+fn runs_keep_promises(rt: HostRuntime) {
     expect_harmless(&rt, rt.alloc(), &OFF_TWICE);
-}
-
-#[test]
-fn access_on_twice(rt: HostRuntime) {
     expect_harmless(&rt, rt.alloc(), &ON_TWICE);
-}
-
-#[test]
-fn access_off_in_a_safe_function_called_with_access(rt: HostRuntime) {
     expect_harmless(&rt, rt.alloc(), &OFF_AND_ON);
-}
-
-#[test]
-fn an_unreached_jump(rt: HostRuntime) {
     expect_harmless(&rt, rt.alloc(), &UNREACHED_JUMP);
-}
-
-#[test]
-fn an_unreached_return(rt: HostRuntime) {
     expect_harmless(&rt, rt.alloc(), &UNREACHED_RETURN);
 }

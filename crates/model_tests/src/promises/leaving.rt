@@ -210,21 +210,9 @@ const LEFT_WITHOUT_ACCESS: Pair = Pair {
 };
 
 #[test]
-fn a_return_with_access(rt: HostRuntime) {
+fn repairs_keep_promises(rt: HostRuntime) {
     expect_pair(&rt, rt.alloc(), &RETURN_WITH_ACCESS);
-}
-
-#[test]
-fn a_jump_outside_with_access(rt: HostRuntime) {
     expect_pair(&rt, rt.alloc(), &JUMP_WITH_ACCESS);
-}
-
-#[test]
-fn a_tail_call_with_access(rt: HostRuntime) {
     expect_pair(&rt, rt.alloc(), &TAIL_CALL_WITH_ACCESS);
-}
-
-#[test]
-fn a_safe_function_left_without_access(rt: HostRuntime) {
     expect_pair(&rt, rt.alloc(), &LEFT_WITHOUT_ACCESS);
 }

@@ -182,16 +182,8 @@ const POPF: Pair = Pair {
 };
 
 #[test]
-fn access_on_in_a_safe_function(rt: HostRuntime) {
+fn repairs_keep_promises(rt: HostRuntime) {
     expect_pair(&rt, rt.alloc(), &ON_IN_SAFE);
-}
-
-#[test]
-fn access_off_in_a_safe_function(rt: HostRuntime) {
     expect_pair(&rt, rt.alloc(), &OFF_IN_SAFE);
-}
-
-#[test]
-fn flags_popped(rt: HostRuntime) {
     expect_pair(&rt, rt.alloc(), &POPF);
 }
