@@ -9,6 +9,7 @@ ghost use Rattle.machine_defs.specs.Program.{Program};
 ghost use Rattle.machine_defs.specs.IsProgram.{HintsStandAtPoints, IsProgram};
 ghost use Rattle.machine_defs.specs.Kept.{AreKeptStates};
 ghost use Rattle.kept_states.specs.LevelStates.{at};
+ghost use Rattle.object_points.specs.Linked.{IsLinked};
 ghost use Rattle.program_graph.specs.Tells.{Tells};
 ghost use Rattle.code_listing.specs.Listing.{HasNoFunction};
 ghost use Rattle.command_base.specs.Code.{IsInOrder};
@@ -23,6 +24,7 @@ use elf_objects::Object;
 use kept_states::{Kept, Scratch, spread};
 use object_law::entry_laws::program_has_functions;
 use object_law::flow_laws::{program_is_laid_out, program_is_one};
+use object_points::Linked;
 use ot_base::{Lists, NoMemory};
 use program_graph::Graph;
 use std::alloc::Global;
@@ -46,6 +48,28 @@ fn states_of(alloc: Global, graph: &Graph) -> Result<Kept, NoMemory>
     Ok(spread(graph, scratch))
 }
 
+/// What is shown of the code of an object that is read, under lists of function names; or why a command stops that can't check it.
+fn code_of_linked<'a>(
+    alloc: Global,
+    linked: &Linked<'_, '_>,
+    lists: &Lists,
+) -> Result<ShownCode, CommandStop<'a>>
+    requires { IsLinked linked.now }
+    ensures shown { IfOk result (IsShownCode (program_of linked.now lists.now)) }
+    ensures right { OnOk result (IsInOrder linked.now) }
+    ensures stopped { (bytes : List ℕ) → IsObject bytes linked.now.elf → IfErr result (IsUncheckable linked.now.map bytes) }
+{
+    program_is_one();
+    program_is_laid_out();
+    program_has_functions();
+    object_is_in_order(linked);
+    let graph = graph_of(alloc, linked, lists)?;
+    match states_of(alloc, &graph) {
+        Ok(kept) => Ok(ShownCode { graph, kept }),
+        Err(NoMemory) => Err(CommandStop::NoMemory),
+    }
+}
+
 /// What is shown of the code of an object, read by an opcode map, under lists of function names; or why a command stops that can't
 /// read it.
 pub(crate) fn code_of<'a>(
@@ -59,16 +83,8 @@ pub(crate) fn code_of<'a>(
     ensures right { OnOk result (IsInOrder (coded_by map object.now)) }
     ensures stopped { (bytes : List ℕ) → IsObject bytes object.now → IfErr result (IsUncheckable map bytes) }
 {
-    program_is_one();
-    program_is_laid_out();
-    program_has_functions();
     let linked = link(alloc, map, object)?;
-    object_is_in_order(&linked);
-    let graph = graph_of(alloc, &linked, lists)?;
-    match states_of(alloc, &graph) {
-        Ok(kept) => Ok(ShownCode { graph, kept }),
-        Err(NoMemory) => Err(CommandStop::NoMemory),
-    }
+    code_of_linked(alloc, &linked, lists)
 }
 
 /// Whether a point is of a function of this name.

@@ -51,6 +51,22 @@ fn check_code<'a>(alloc: Global, linked: &Linked<'_, '_>) -> Result<(), CommandS
     }
 }
 
+/// The sites of an object whose code is read, or why a command stops that has none.
+fn sites_of_linked<'a>(alloc: Global, linked: &Linked<'_, '_>) -> Result<SiteLists, CommandStop<'a>>
+    requires { IsLinked linked.now }
+    ensures are { IfOk result (λ lists. listed lists ≡ sites_of_code linked.now) }
+    ensures placed { IfOk result (λ lists. AreSitesIn linked.now.elf (listed lists)) }
+    ensures few { IfOk result (λ lists. AreFew (listed lists)) }
+    ensures right { OnOk result (IsInOrder linked.now) }
+    ensures stopped { (bytes : List ℕ) → IsObject bytes linked.now.elf → IfErr result (GetNoSites linked.now.map bytes) }
+{
+    check_code(alloc, linked)?;
+    match sites(alloc, linked) {
+        Ok(lists) => Ok(lists),
+        Err(NoMemory) => Err(CommandStop::NoMemory),
+    }
+}
+
 /// The sites of an object whose code is read by an opcode map, or why a command stops that has none.
 pub(crate) fn sites_of<'a>(
     alloc: Global,
@@ -65,9 +81,5 @@ pub(crate) fn sites_of<'a>(
     ensures stopped { (bytes : List ℕ) → IsObject bytes object.now → IfErr result (GetNoSites map bytes) }
 {
     let linked = link(alloc, map, object)?;
-    check_code(alloc, &linked)?;
-    match sites(alloc, &linked) {
-        Ok(lists) => Ok(lists),
-        Err(NoMemory) => Err(CommandStop::NoMemory),
-    }
+    sites_of_linked(alloc, &linked)
 }
