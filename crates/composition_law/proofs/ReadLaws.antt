@@ -13,14 +13,14 @@ use Rattle.eh_frame.specs.Laws.{rules_of_rows}
 use Rattle.eh_frame.specs.declared.rule.PlacedRule.{PlacedRule}
 use Rattle.eh_frame.proofs.Excluded.{rules_same}
 use Rattle.cli_words.specs.Grammar.{cfa, find, list}
-use Rattle.table_commands.specs.List.{HoldsLists, IsListed, lists_text}
-use Rattle.table_commands.proofs.ListLaws.{listed_file}
-use Rattle.table_commands.specs.Cfa.{IsTold, SaysRules, rules_text}
-use Rattle.table_commands.proofs.CfaLaws.{file_told}
-use Rattle.table_commands.specs.Alike.{FindsRow}
-use Rattle.table_commands.specs.Find.{IsFound, found_line}
-use Rattle.table_commands.proofs.FindLaws.{found_row}
-use Rattle.table_commands.proofs.TableLemmas.{one_table}
+use Rattle.command_base.specs.List.{HoldsLists, IsListed, lists_text}
+use Rattle.command_base.proofs.ListLaws.{listed_file}
+use Rattle.command_base.specs.Cfa.{IsTold, SaysRules, rules_text}
+use Rattle.command_base.proofs.CfaLaws.{file_told}
+use Rattle.command_base.specs.Alike.{FindsRow}
+use Rattle.command_base.specs.Find.{IsFound, found_line}
+use Rattle.command_base.proofs.FindLaws.{found_row}
+use Rattle.command_base.proofs.TableLemmas.{one_table}
 use Rattle.objtool_cli.proofs.ReadBackEnds.{cfa_answered, find_answered, list_answered}
 use Rattle.objtool_cli.proofs.SameCommand.{done_as}
 use Rattle.composition_law.specs.Laws.{CfaIsDone, FindIsDone, ListIsDone}

@@ -34,15 +34,15 @@ use Rattle.command_base.specs.Printing.{Concludes, Prints}
 use Rattle.objtool_cli.specs.Command.{Ends}
 use Rattle.objtool_cli.specs.Unwinding.{UnwindsBy}
 use Rattle.objtool_cli.specs.CodeSites.{sites_of}
-use Rattle.table_commands.specs.List.{lists_text}
+use Rattle.command_base.specs.List.{lists_text}
 use Rattle.objtool_cli.specs.SiteObjects.{ListsSites}
 use Rattle.eh_frame.specs.Laws.{rules_of_rows}
-use Rattle.table_commands.specs.Cfa.{rules_text}
+use Rattle.command_base.specs.Cfa.{rules_text}
 use Rattle.objtool_cli.specs.FrameObjects.{TellsRows}
 use Rattle.orc_walk.specs.Rows.{row_at}
 use Rattle.orc_merge.specs.declared.part.Part.{Part}
-use Rattle.table_commands.specs.Find.{found_line}
-use Rattle.table_commands.specs.Merge.{IsTableOf}
+use Rattle.command_base.specs.Find.{found_line}
+use Rattle.command_base.specs.Merge.{IsTableOf}
 use Rattle.cli_words.specs.Grammar.{cfa, dump, find, list, unwind}
 use Rattle.command_base.specs.Dump.{Dumps, rows_text}
 use Rattle.command_base.specs.Unwind.{IsPlaced, Unwinds, ranges_of}

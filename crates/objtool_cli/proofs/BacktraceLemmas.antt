@@ -33,8 +33,8 @@ use Rattle.command_base.specs.declared.status.Status.{Status}
 use Rattle.command_base.specs.declared.stop.CommandStop.TheVariants as stop
 use Rattle.command_base.specs.Outside.{Output}
 use Rattle.command_base.specs.Printing as printing
-use Rattle.backtraces.specs.BacktraceCases.{IsWarnedOf}
-use Rattle.backtraces.specs.BacktracePrinting.{PrintsBacktraces, silent, tells}
+use Rattle.command_base.specs.BacktraceCases.{IsWarnedOf}
+use Rattle.command_base.specs.BacktracePrinting.{PrintsBacktraces, silent, tells}
 use Rattle.objtool_cli.specs.Checked.{allowances_under, program_under}
 use Rattle.objtool_cli.specs.Telling.{TellsWarnings, backtraces, printed, unread}
 

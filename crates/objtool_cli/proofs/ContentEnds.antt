@@ -12,7 +12,7 @@ use Rattle.objtool_cli.specs.Command.{ChangesOut, Ends, EndsAs, EndsCheck, MayCh
 use Rattle.cli_words.specs.Grammar.{Command, cfa, cfi, check, demo, dump, entry, explain, find, help, list, merge, show, sites, unwind, version}
 use Rattle.objtool_cli.proofs.SitesLaws.{sites_changes, sites_unchanged}
 use Rattle.objtool_cli.proofs.CfiLaws.{cfi_changes, cfi_unchanged}
-use Rattle.table_commands.proofs.MergeLaws.{merge_changes, merge_unchanged}
+use Rattle.command_base.proofs.MergeLaws.{merge_changes, merge_unchanged}
 use Rattle.cli_words.specs.declared.options.CheckOptions.{CheckOptions}
 use Rattle.objtool_cli.specs.Words.{Meaning}
 

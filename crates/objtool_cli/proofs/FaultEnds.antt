@@ -19,11 +19,11 @@ use Rattle.objtool_cli.specs.Words.{Meaning, entry_options}
 use Rattle.objtool_cli.proofs.EntryLaws.{entry_fault, entry_sink_fault}
 use Rattle.command_base.proofs.UnwindLaws.{unwind_fault, unwind_sink_fault}
 use Rattle.command_base.proofs.DumpLaws.{dump_fault, dump_sink_fault}
-use Rattle.table_commands.proofs.ListLaws.{list_fault, list_sink_fault}
+use Rattle.command_base.proofs.ListLaws.{list_fault, list_sink_fault}
 use Rattle.objtool_cli.proofs.SitesLaws.{sites_fault, sites_sink_fault}
-use Rattle.table_commands.proofs.CfaLaws.{cfa_fault, cfa_sink_fault}
-use Rattle.table_commands.proofs.MergeLaws.{merge_file_fault, merge_sink_fault}
-use Rattle.table_commands.proofs.FindLaws.{find_fault, find_sink_fault}
+use Rattle.command_base.proofs.CfaLaws.{cfa_fault, cfa_sink_fault}
+use Rattle.command_base.proofs.MergeLaws.{merge_file_fault, merge_sink_fault}
+use Rattle.command_base.proofs.FindLaws.{find_fault, find_sink_fault}
 use Rattle.objtool_cli.proofs.ShowLaws.{show_fault, show_sink_fault}
 use Rattle.objtool_cli.proofs.CfiEnds.{cfi_fault, cfi_sink_fault}
 use Rattle.command_base.proofs.DumpLaws.{read_fault}

@@ -32,14 +32,14 @@ use Rattle.x86_decode.specs.Decoding.{OneOutcome}
 use Rattle.command_base.specs.Names.{HasNames}
 use Rattle.site_lists.specs.Listed.{Listed}
 use Rattle.objtool_cli.specs.SitesOrder.{GetsSites}
-use Rattle.table_commands.specs.List.{HoldsLists}
-use Rattle.table_commands.proofs.ListLaws.{list_left}
+use Rattle.command_base.specs.List.{HoldsLists}
+use Rattle.command_base.proofs.ListLaws.{list_left}
 use Rattle.objtool_cli.proofs.SitesLaws.{sites_left}
 use Rattle.eh_frame.specs.declared.rule.PlacedRule.{PlacedRule}
-use Rattle.table_commands.specs.Cfa.{SaysRules}
+use Rattle.command_base.specs.Cfa.{SaysRules}
 use Rattle.objtool_cli.specs.Cfi.{BreaksRule, Gets}
 use Rattle.command_base.specs.Refusing.{IsWarnedOrFails}
-use Rattle.table_commands.proofs.CfaLaws.{cfa_left}
+use Rattle.command_base.proofs.CfaLaws.{cfa_left}
 use Rattle.objtool_cli.proofs.CfiLaws.{cfi_left, cfi_warns}
 use Rattle.table_defs.specs.Lookup.{AddressedRow}
 use Rattle.orc_merge.specs.LayoutFile.{FileSaid}
@@ -47,13 +47,13 @@ use Rattle.orc_merge.specs.MergeFaults.{merge_fault}
 use Rattle.orc_merge.specs.Merged.{IsMergedTable}
 use Rattle.orc_merge.specs.TableBytes.{table_bytes}
 use Rattle.orc_merge.specs.declared.part.Part.{Part}
-use Rattle.table_commands.specs.Layouts.{IsLayoutOf}
-use Rattle.table_commands.specs.MergedObjects.{ArePartsOf}
-use Rattle.table_commands.proofs.FindLaws.{find_left}
+use Rattle.command_base.specs.Layouts.{IsLayoutOf}
+use Rattle.command_base.specs.MergedObjects.{ArePartsOf}
+use Rattle.command_base.proofs.FindLaws.{find_left}
 use Rattle.objtool_cli.proofs.ShowLaws.{show_accepts}
 use Rattle.objtool_cli.specs.Show.{HasCode}
 use Rattle.flow_defs.specs.Program.{program_of}
-use Rattle.table_commands.proofs.MergeLaws.{merge_left}
+use Rattle.command_base.proofs.MergeLaws.{merge_left}
 use Rattle.objtool_cli.proofs.SameCommand.{done_as, ends_as}
 
 pub rows_dumped : (meaning : Meaning) (before after : Outside) (out out' : Output) (x : Status) (file : List ℕ) → Ends meaning before after out out' x → x ≡ Done → meaning ≡ Ok (dump file) → IsDumped file before.content out.written out'.written

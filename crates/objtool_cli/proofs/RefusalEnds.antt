@@ -27,12 +27,12 @@ use Rattle.objtool_cli.specs.Refused.{IsRefused, RefusesAs, RefusesCheck, Refuse
 use Rattle.objtool_cli.specs.Summary.{IsOrFails, SumsUp, demo_bytes, demo_title}
 use Rattle.objtool_cli.specs.Words.{Meaning, entry_options}
 use Rattle.objtool_cli.proofs.EntryLaws.{entry_refused, entry_told}
-use Rattle.table_commands.proofs.ListLaws.{list_refused, list_told}
+use Rattle.command_base.proofs.ListLaws.{list_refused, list_told}
 use Rattle.objtool_cli.proofs.SitesLaws.{sites_refused, sites_told}
-use Rattle.table_commands.proofs.CfaLaws.{cfa_refused, cfa_told}
+use Rattle.command_base.proofs.CfaLaws.{cfa_refused, cfa_told}
 use Rattle.objtool_cli.proofs.CfiLaws.{cfi_refused, cfi_told}
-use Rattle.table_commands.proofs.MergeLaws.{merge_refused, merge_told}
-use Rattle.table_commands.proofs.FindLaws.{find_refused, find_told}
+use Rattle.command_base.proofs.MergeLaws.{merge_refused, merge_told}
+use Rattle.command_base.proofs.FindLaws.{find_refused, find_told}
 use Rattle.objtool_cli.proofs.ShowLaws.{show_refused, show_told}
 use Rattle.objtool_cli.proofs.AcceptsLemmas.{accepted_unrefused, broken_unrefused, refused_memory, warns_breaks}
 use Rattle.objtool_cli.proofs.InputLemmas.{named_in, names_refuse, unrefused}

@@ -31,12 +31,12 @@ use Rattle.cli_words.specs.declared.options.EntryRules.{EntryRules}
 use Rattle.objtool_cli.specs.Words.{Meaning, entry_options, explained}
 use Rattle.command_base.specs.Writing.{StopsAtWrite}
 use Rattle.objtool_cli.specs.Sites.{EndsSites, SitesMayChange}
-use Rattle.table_commands.specs.List.{EndsList}
+use Rattle.command_base.specs.List.{EndsList}
 use Rattle.objtool_cli.specs.Entry.{EndsEntry, PrintsEntryWarnings}
 use Rattle.objtool_cli.specs.Cfi.{CfiMayChange, EndsCfi, TellsWarnings}
-use Rattle.table_commands.specs.Cfa.{EndsCfa}
-use Rattle.table_commands.specs.Merge.{EndsMerge, MayBeMerged}
-use Rattle.table_commands.specs.Find.{EndsFind}
+use Rattle.command_base.specs.Cfa.{EndsCfa}
+use Rattle.command_base.specs.Merge.{EndsMerge, MayBeMerged}
+use Rattle.command_base.specs.Find.{EndsFind}
 use Rattle.objtool_cli.specs.Show.{EndsShow}
 use Rattle.objtool_cli.specs.Inputs.{IsRead}
 

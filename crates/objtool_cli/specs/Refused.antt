@@ -15,11 +15,11 @@ use Rattle.command_base.specs.Unwind.{HasNoWalk}
 use Rattle.objtool_cli.specs.Inputs.{RefusesInput}
 use Rattle.objtool_cli.specs.Checked.{IsRefusal, IsUncheckable}
 use Rattle.objtool_cli.specs.SitesRefused.{RefusesSites}
-use Rattle.table_commands.specs.ListRefused.{RefusesList}
+use Rattle.command_base.specs.ListRefused.{RefusesList}
 use Rattle.objtool_cli.specs.EntryRefused.{RefusesEntry}
 use Rattle.objtool_cli.specs.FramesRefused.{RefusesCfi}
-use Rattle.table_commands.specs.CfaRefused.{RefusesCfa}
-use Rattle.table_commands.specs.MergeRefused.{RefusesFind, RefusesMerge}
+use Rattle.command_base.specs.CfaRefused.{RefusesCfa}
+use Rattle.command_base.specs.MergeRefused.{RefusesFind, RefusesMerge}
 use Rattle.objtool_cli.specs.ShowRefused.{RefusesShow}
 use Rattle.objtool_cli.specs.Summary.{demo_bytes, no_options}
 use Rattle.objtool_cli.specs.Words.{Meaning}

@@ -13,7 +13,7 @@ use Rattle.command_base.specs.declared.stop.CommandStop.{CommandStop}
 use Rattle.command_base.specs.Outside.{Output}
 use Rattle.command_base.specs.Printing.{Concludes, Prints}
 use Rattle.command_base.specs.Warnings.{warnings_text}
-use Rattle.backtraces.specs.BacktraceText.{AreBacktraced}
+use Rattle.command_base.specs.BacktraceText.{AreBacktraced}
 use Rattle.objtool_cli.specs.Checked.{IsUnchecked, program_under}
 
 -- The text of the warnings of the object of IN under its lists of names: a line for each; and where `backtrace` is asked for, behind each

@@ -10,13 +10,13 @@ ghost use Rattle.x86_map.specs.declared.map.Map.{Map};
 ghost use Rattle.site_lists.specs.Listed.{Listed};
 ghost use Rattle.objtool_cli.specs.SitesOrder.{GetsSites};
 ghost use Rattle.objtool_cli.specs.Sites.{OutListsSites};
-ghost use Rattle.table_commands.specs.List.{HoldsLists, IsListed};
+ghost use Rattle.command_base.specs.List.{HoldsLists, IsListed};
 ghost use Rattle.cli_words.specs.declared.options.EntryRules.{EntryRules as RulesValue};
 ghost use Rattle.command_base.specs.Code.{IsInOrder};
 ghost use Rattle.objtool_cli.specs.Entry.{BreaksEntryRule, InKeepsEntryRules, IsUnbroken};
 ghost use Rattle.eh_frame.specs.declared.rule.PlacedRule.{PlacedRule as RuleValue};
 ghost use Rattle.objtool_cli.specs.Cfi.{BreaksRule as BreaksDefaultRule, Gets};
-ghost use Rattle.table_commands.specs.Cfa.{IsTold, SaysRules};
+ghost use Rattle.command_base.specs.Cfa.{IsTold, SaysRules};
 ghost use Rattle.command_base.specs.Refusing.{IsWarnedOrFails};
 ghost use Rattle.objtool_cli.specs.Written.{OutTellsFrames};
 ghost use Rattle.table_defs.specs.Lookup.{AddressedRow};
@@ -25,13 +25,13 @@ ghost use Rattle.orc_merge.specs.MergeFaults.{merge_fault};
 ghost use Rattle.orc_merge.specs.Merged.{IsMergedTable};
 ghost use Rattle.orc_merge.specs.TableBytes.{table_bytes};
 ghost use Rattle.orc_merge.specs.declared.part.Part.{Part as PartValue};
-ghost use Rattle.table_commands.specs.Alike.{FindAlike, WalkAlike};
-ghost use Rattle.table_commands.specs.Find.{IsFound};
+ghost use Rattle.command_base.specs.Alike.{FindAlike, WalkAlike};
+ghost use Rattle.command_base.specs.Find.{IsFound};
 ghost use Rattle.objtool_cli.specs.Show.{HasCode, PrintsListing};
 ghost use Rattle.flow_defs.specs.Program.{program_of};
-ghost use Rattle.table_commands.specs.Layouts.{IsLayoutOf};
-ghost use Rattle.table_commands.specs.Merge.{IsMerged};
-ghost use Rattle.table_commands.specs.MergedObjects.{ArePartsOf};
+ghost use Rattle.command_base.specs.Layouts.{IsLayoutOf};
+ghost use Rattle.command_base.specs.Merge.{IsMerged};
+ghost use Rattle.command_base.specs.MergedObjects.{ArePartsOf};
 ghost use Rattle.orc_walk.specs.ImageFile.{StackImage};
 ghost use Rattle.command_base.specs.Dump.{HoldsRows, IsAnswered, IsDumped};
 ghost use Rattle.command_base.specs.Unwind.{IsPlaced, IsUnwound};
@@ -64,15 +64,14 @@ use crate::words::Check;
 use cli_matches::{help_text, read_words, version_text};
 use cli_words::{Command, EntryRules, UsageFault};
 use command_base::{
-    CommandStop, MAX_IMAGE_BYTES, Status, Usage, conclude, dump, print_line, read_file, read_names,
-    unwind,
+    CommandStop, MAX_IMAGE_BYTES, Status, Usage, cfa, conclude, dump, find, list, merge,
+    print_line, read_file, read_names, unwind,
 };
 use elf_objects::MAX_FILE_BYTES;
 use entry_rules::EntryOptions;
 use explanations::{explanation, topics};
 use ot_files::{Files, Sink};
 use std::alloc::Global;
-use table_commands::{cfa, find, list, merge};
 use x86_decode::one_outcome;
 
 /// Reads the input and the names file, checks the input, writes it with its tables or prints its warnings,

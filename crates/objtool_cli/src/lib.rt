@@ -31,9 +31,11 @@ mod telling;
 mod words;
 mod writing;
 
-pub use backtraces::{Holder, print_backtraces};
 pub use command::run;
-pub use command_base::Status;
+pub use command_base::{
+    Holder, MAX_LAYOUT_BYTES, MOST_FILES, Status, cfa, find, list, merge, merged_rows_are_found,
+    print_backtraces,
+};
 pub use entry_checking::entry;
 pub use entry_words::EntryAsked;
 pub use frames_adding::cfi;
@@ -43,6 +45,3 @@ pub use show_words::ShowAsked;
 pub use sites_adding::sites;
 pub use sites_words::SitesAsked;
 pub use summaries::summary;
-pub use table_commands::{
-    MAX_LAYOUT_BYTES, MOST_FILES, cfa, find, list, merge, merged_rows_are_found,
-};

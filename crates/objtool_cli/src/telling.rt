@@ -11,9 +11,8 @@ ghost use Rattle.objtool_cli.specs.Telling.{TellsWarnings};
 
 use crate::check::check_stop;
 use crate::words::Check;
-use backtraces::print_backtraces;
 use cli_words::CheckOptions;
-use command_base::{Status, conclude, print_warnings};
+use command_base::{Status, conclude, print_backtraces, print_warnings};
 use elf_objects::{MAX_FILE_BYTES, Object};
 use object_check::{CheckFault, ReadCode, read_code, states_of};
 use object_law::flow_laws::{program_is_laid_out, program_is_one};

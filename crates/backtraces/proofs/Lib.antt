@@ -1,8 +1,0 @@
-mod PlaceOrder
-mod SpotLemmas
-mod HolderLemmas
-mod CaseLemmas
-mod PrintingLemmas
-mod NumberLemmas
-mod CaseLists
-mod BacktraceParts
