@@ -142,23 +142,32 @@ pub(crate) fn parts_of(
     let Ways {
         returns,
         alike,
-        transfers,
+        transfers: list,
     } = list_ways(alloc, points, lists)?;
-    let own = own_points(alloc, points, &returns, &transfers.numbers)?;
-    let beside = list_surroundings(alloc, points.places())?;
+    let OwnedPoints {
+        list: made,
+        owners,
+        rares,
+        restores,
+    } = own_points(alloc, points, &returns, &list.numbers)?;
+    let Surroundings {
+        sites,
+        texts,
+        without_size,
+    } = list_surroundings(alloc, points.places())?;
     Ok(GraphParts {
-        points: own.list.points,
+        points: made.points,
         starts: returns.starts,
         edges: returns.edges,
         alike,
-        owners: own.owners,
-        kinds: own.list.kinds,
-        transfers: transfers.transfers,
-        rares: own.rares.rares,
-        hinted: own.rares.hinted,
-        restores: own.restores,
-        sites: beside.sites,
-        texts: beside.texts,
-        without_size: beside.without_size,
+        owners,
+        kinds: made.kinds,
+        transfers: list.transfers,
+        rares: rares.rares,
+        hinted: rares.hinted,
+        restores,
+        sites,
+        texts,
+        without_size,
     })
 }

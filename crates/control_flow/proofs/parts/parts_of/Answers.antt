@@ -1,6 +1,52 @@
-use Rattle.std.proofs.Common.{◌≡◌, ap, ◌∙◌, refl}
+use Rattle.std.proofs.Common.{◌≡◌, ℕ, List, refl, ap, ◌∙◌, subst}
 use Rattle.flow_defs.specs.Coded.{Coded}
+use Rattle.flow_defs.specs.Program.{text_sections_of, unsized_of}
+use Rattle.flow_defs.specs.Sites.{sites_of}
+use Rattle.program_graph.specs.declared.parts.GraphParts.{GraphParts}
+use Rattle.control_flow.specs.Listed.{count_of}
+use Rattle.control_flow.specs.Points.{AreMade}
+use Rattle.control_flow.proofs.Whole.{AreParts, parts_have_shape, parts_tell}
 use Rattle.control_flow.proofs.parts.parts_of.Goals as goal
 
 pub returns : goal.returns
-returns c = ?
+returns c =
+    let o : Coded = c.args.points.now in
+    let lists = c.args.lists.now in
+    let own = c.in_ok-made.field-0 in
+    let parts : GraphParts = record {
+      points = c.in_ok-made.field-0.list.points;
+      starts = c.in_ok-returns.field-0.returns.starts;
+      edges = c.in_ok-returns.field-0.returns.edges;
+      alike = c.in_ok-returns.field-0.alike;
+      owners = c.in_ok-made.field-0.owners;
+      kinds = c.in_ok-made.field-0.list.kinds;
+      transfers = c.in_ok-returns.field-0.transfers.transfers;
+      rares = c.in_ok-made.field-0.rares.rares;
+      hinted = c.in_ok-made.field-0.rares.hinted;
+      restores = c.in_ok-made.field-0.restores;
+      sites = c.in_ok-sites.field-0.sites;
+      texts = c.in_ok-sites.field-0.texts;
+      without_size = c.in_ok-sites.field-0.without_size;
+    } in
+    let returned = c.in_ok-returns.field-0.returns in
+    let rares : List ℕ = own.rares.numbers.items in
+    let transfers : List ℕ = c.in_ok-returns.field-0.transfers.numbers.items in
+    let told = c.in_ok-returns.ensures.told in
+    let places : c.places.result.now ≡ o = c.places.ensures in
+    let same_transfers : c.deref.result.now ≡ transfers = cc in
+    let are : AreParts o lists parts returned told.starts told.edges rares transfers = record {
+      few = c.in_ok-made.ensures.few;
+      points = subst (λ (ts : List ℕ). AreMade o own.owners.items returned rares ts own.list.kinds.items own.list.points.items (count_of o)) same_transfers c.in_ok-made.ensures.made;
+      transfers = c.in_ok-returns.ensures.transfers;
+      rares = c.in_ok-made.ensures.rares;
+      returns_shape = c.in_ok-returns.ensures.shape;
+      listed = told.listed;
+      returns_told = told.told;
+      parts_starts = refl;
+      parts_edges = refl;
+      restores = c.in_ok-made.ensures.restores;
+      sites = c.in_ok-sites.ensures.sites ∙ ap sites_of places;
+      texts = c.in_ok-sites.ensures.texts ∙ ap (λ (e : Coded). text_sections_of e.elf) places;
+      without_size = c.in_ok-sites.ensures.without_size ∙ ap (λ (e : Coded). unsized_of e.elf) places;
+    } in
+    record { tells = parts_tell o lists parts returned told.starts told.edges rares transfers are; shape = parts_have_shape o lists parts returned told.starts told.edges rares transfers are }
