@@ -5,11 +5,17 @@ ghost use Rattle.ot_base.specs.NameLists.{NameLists};
 ghost use Rattle.ot_base.specs.declared.row.PlacedRow.{PlacedRow};
 ghost use Rattle.ot_files.specs.Content.{Content, reading};
 ghost use Rattle.elf_objects.specs.Elf.{Elf};
+ghost use Rattle.elf_objects.specs.Object.{IsObject};
+ghost use Rattle.flow_defs.specs.Coded.{coded_by};
+ghost use Rattle.eh_frame.specs.Framed.{CanBeFramed};
+ghost use Rattle.object_check.specs.Outcome.{HasRows, IsUnbroken};
+ghost use Rattle.object_check.specs.Unwinding.{RowsUnwind};
 ghost use Rattle.command_base.specs.Dump.{IsAnswered};
 ghost use Rattle.command_base.specs.Names.{HasNames};
 ghost use Rattle.command_base.specs.Printing.{IsOutputFault};
 ghost use Rattle.command_base.specs.declared.stop.CommandStop.{CommandStop as StopValue};
 ghost use Rattle.objtool_cli.specs.Cfi.{BreaksRule, CfiMayChange, EndsCfi, Gets, TellsWarnings};
+ghost use Rattle.objtool_cli.specs.FramesOrder.{IsCheckable, allowances_under, default_rules, program_under};
 ghost use Rattle.objtool_cli.specs.Inputs.{IsRead};
 ghost use Rattle.command_base.specs.Refusing.{IsRefusedOrFails, IsWarnedOrFails, Tells};
 ghost use Rattle.objtool_cli.specs.FramesRefused.{RefusesCfi};
@@ -23,11 +29,81 @@ use command_base::{
 };
 use elf_objects::{MAX_FILE_BYTES, Object};
 use object_check::ObjectVerdict;
-use ot_base::Lists;
+use ot_base::{Lists, PlacedRow};
 use ot_files::{Files, Sink};
 use std::alloc::Global;
 use table_defs::find_is_exact;
 use x86_decode::one_outcome;
+
+/// Writes an object with the call frame information of these rows of its program to the output file, or tells why it isn't written.
+fn add<F: Files, S: Sink>(
+    alloc: Global,
+    asked: CfiAsked<'_>,
+    bytes: &[u8],
+    object: &Object<'_>,
+    lists: &Lists,
+    rows: &[PlacedRow],
+    files: &mut F,
+    out: &mut S,
+) -> Status
+    requires read { IsRead (F.content files.old) asked.input.now (option_map (λ file. file.now) asked.names) bytes.now lists.now }
+    requires object { IsObject bytes.now object.now }
+    requires checkable { IsCheckable (coded_by asked.map object.now) }
+    requires unbroken { IsUnbroken (program_under asked.map lists.now object.now) (allowances_under asked.map lists.now object.now) default_rules }
+    requires rows { HasRows (program_under asked.map lists.now object.now) rows.now }
+    requires framed { CanBeFramed object.now rows.now }
+    requires unwinds { RowsUnwind (coded_by asked.map object.now) lists.now rows.now }
+    ensures ends { EndsCfi asked.entry.map asked.entry.input.now asked.entry.output.now (option_map (λ file. file.now) asked.entry.names)
+        (record { content = F.content files.old; faults = F.faults files.old })
+        (record { content = F.content files.new; faults = F.faults files.new })
+        (record { written = S.written out.old; faults = S.faults out.old })
+        (record { written = S.written out.new; faults = S.faults out.new }) result }
+    ensures files_later { F.faults files.old ≤ F.faults files.new }
+    ensures out_later { S.faults out.old ≤ S.faults out.new }
+    ensures output_failed { S.faults out.old < S.faults out.new → IsOutputFault result }
+{
+    find_is_exact();
+    let file = match with_its_frames(alloc, object, rows) {
+        Ok(file) => file,
+        Err(stop) => return conclude(alloc, stop, out),
+    };
+    match write_file(asked.output, file.as_slice(), files) {
+        Ok(()) => Status::Done,
+        Err(stop) => conclude(alloc, stop, out),
+    }
+}
+
+/// Checks the object that the bytes are that were read of the input, under lists of names. Writes it with its call frame information to
+/// the output file; or prints the warnings, where it breaks rules; or tells why it gets none.
+fn check_and_add_object<F: Files, S: Sink>(
+    alloc: Global,
+    asked: CfiAsked<'_>,
+    bytes: &[u8],
+    object: &Object<'_>,
+    lists: &Lists,
+    files: &mut F,
+    out: &mut S,
+) -> Status
+    requires few { length object.now.bytes ≤ MAX_FILE_BYTES }
+    requires read { IsRead (F.content files.old) asked.input.now (option_map (λ file. file.now) asked.names) bytes.now lists.now }
+    requires object { IsObject bytes.now object.now }
+    ensures ends { EndsCfi asked.entry.map asked.entry.input.now asked.entry.output.now (option_map (λ file. file.now) asked.entry.names)
+        (record { content = F.content files.old; faults = F.faults files.old })
+        (record { content = F.content files.new; faults = F.faults files.new })
+        (record { written = S.written out.old; faults = S.faults out.old })
+        (record { written = S.written out.new; faults = S.faults out.new }) result }
+    ensures files_later { F.faults files.old ≤ F.faults files.new }
+    ensures out_later { S.faults out.old ≤ S.faults out.new }
+    ensures output_failed { S.faults out.old < S.faults out.new → IsOutputFault result }
+{
+    match check_object(alloc, asked.map, object, lists) {
+        Ok(ObjectVerdict::Accepted { rows, .. }) => add(
+            alloc, asked, bytes, object, lists, &rows, files, out,
+        ),
+        Ok(ObjectVerdict::Broken(warnings)) => print_warnings(alloc, object, &warnings, out),
+        Err(stop) => conclude(alloc, stop, out),
+    }
+}
 
 /// Checks the bytes that were read of the input under lists of names. Writes them with their call frame information to the output file;
 /// or prints the warnings, where they break rules; or tells why they get none.
@@ -50,25 +126,9 @@ fn check_and_add<F: Files, S: Sink>(
     ensures out_later { S.faults out.old ≤ S.faults out.new }
     ensures output_failed { S.faults out.old < S.faults out.new → IsOutputFault result }
 {
-    find_is_exact();
-    let object = match Object::parse(alloc, bytes) {
-        Ok(object) => object,
-        Err(fault) => return conclude(alloc, parse_stop(fault), out),
-    };
-    let rows = match check_object(alloc, asked.map, &object, lists) {
-        Ok(ObjectVerdict::Accepted { rows, .. }) => rows,
-        Ok(ObjectVerdict::Broken(warnings)) => return print_warnings(
-            alloc, &object, &warnings, out,
-        ),
-        Err(stop) => return conclude(alloc, stop, out),
-    };
-    let file = match with_its_frames(alloc, &object, &rows) {
-        Ok(file) => file,
-        Err(stop) => return conclude(alloc, stop, out),
-    };
-    match write_file(asked.output, file.as_slice(), files) {
-        Ok(()) => Status::Done,
-        Err(stop) => conclude(alloc, stop, out),
+    match Object::parse(alloc, bytes) {
+        Ok(object) => check_and_add_object(alloc, asked, bytes, &object, lists, files, out),
+        Err(fault) => conclude(alloc, parse_stop(fault), out),
     }
 }
 
