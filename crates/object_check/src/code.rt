@@ -12,6 +12,7 @@ ghost use Rattle.machine_defs.specs.Kept.{AreKeptStates};
 ghost use Rattle.kept_states.specs.LevelStates.{at};
 ghost use Rattle.object_check.specs.Code.{IsCodeFault, IsCodeOf};
 ghost use Rattle.object_check.specs.Ready.{IsTableOf};
+ghost use Rattle.object_points.specs.Linked.{IsLinked};
 
 use crate::counts::{CodeCounts, count_code};
 use crate::fault::CodeFault;
@@ -70,6 +71,29 @@ fn table_if_needed(
     }
 }
 
+/// What is kept of the code of an object that is read.
+fn code_of(
+    alloc: Global,
+    linked: &Linked<'_, '_>,
+    lists: &Lists,
+    options: Options,
+) -> Result<ReadCode, CodeFault>
+    requires short { length linked.now.elf.bytes ≤ most_bytes }
+    requires linked { IsLinked linked.now }
+    ensures ok { IfOk result (IsCodeOf linked.now lists.now options) }
+    ensures err { IfErr result (IsCodeFault linked.now) }
+{
+    object_is_in_order(linked);
+    let graph = flow(alloc, linked, lists)?;
+    let table = table_if_needed(alloc, linked, lists, options)?;
+    let counts = count_code(linked);
+    Ok(ReadCode {
+        graph,
+        table,
+        counts,
+    })
+}
+
 /// Reads the code of an object of at most 67,108,864 bytes (64 MiB) by an opcode map and follows its control flow, under lists of
 /// function names. Of what it reads it keeps the graph, the counts, and what the rules that the options ask for look at.
 ///
@@ -89,15 +113,7 @@ pub fn read_code(
     ensures err { IfErr result (IsCodeFault (coded_by map object.now)) }
 {
     let linked = Linked::link(alloc, map, object)?;
-    object_is_in_order(&linked);
-    let graph = flow(alloc, &linked, lists)?;
-    let table = table_if_needed(alloc, &linked, lists, options)?;
-    let counts = count_code(&linked);
-    Ok(ReadCode {
-        graph,
-        table,
-        counts,
-    })
+    code_of(alloc, &linked, lists, options)
 }
 
 /// The states that a checker keeps for the points of an object's program.

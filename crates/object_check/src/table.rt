@@ -14,6 +14,22 @@ use ot_base::{Lists, NoMemory};
 use program_check::AllowanceTable;
 use std::alloc::Global;
 
+/// What an object whose points are told, and lists of names, allow at these points and at its symbols.
+fn table_of_places(
+    alloc: Global,
+    places: &PointPlaces<'_, '_, '_>,
+    lists: &Lists,
+) -> Result<AllowanceTable, NoMemory>
+    ensures { IfOk result (λ table. Allows (allowances_of places.now lists.now) table (length (points_of_object places.now))) }
+{
+    Ok(AllowanceTable {
+        safe_branches: list_safe_branches(alloc, places)?,
+        lacking_smap: list_lacking_smap(alloc, places)?,
+        safe_names: list_safe_names(alloc, places.linked().object(), lists)?,
+        empty_is_safe: lists.access_safe(&[]),
+    })
+}
+
 /// What an object whose code is read, and lists of names, allow at the points of its program and at its symbols.
 ///
 /// The table takes 2 bytes a point and 1 a symbol. The place of each point is looked up among those that are listed as safe,
@@ -31,10 +47,5 @@ pub fn table_of(
     ensures program { IfOk result (λ table. Allows (allowances_of linked.now lists.now) table (program_of linked.now lists.now).count) }
 {
     let places = PointPlaces::build(alloc, linked)?;
-    Ok(AllowanceTable {
-        safe_branches: list_safe_branches(alloc, &places)?,
-        lacking_smap: list_lacking_smap(alloc, &places)?,
-        safe_names: list_safe_names(alloc, linked.object(), lists)?,
-        empty_is_safe: lists.access_safe(&[]),
-    })
+    table_of_places(alloc, &places, lists)
 }
