@@ -10,7 +10,7 @@ use special_sections::AltEntry;
 use std::alloc::Global;
 
 /// The original of an entry.
-#[derive(Clone, Copy, Debug, PartialEq, Eq)]
+#[derive(Clone, Copy)]
 pub(crate) struct Original {
     /// Where it begins.
     pub(crate) place: Place,

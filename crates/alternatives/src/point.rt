@@ -13,7 +13,7 @@ use ot_base::{Place, is_before};
 /// patched over a site.
 ///
 /// Points are ordered by place, and at one place by variant.
-#[derive(Clone, Copy, Debug, PartialEq, Eq, PartialOrd, Ord)]
+#[derive(Clone, Copy, PartialEq, Eq, PartialOrd, Ord)]
 pub struct Point {
     /// Where its bytes stand; of the padding behind a replacement, where that replacement ends.
     pub place: Place,

@@ -14,7 +14,7 @@ use ot_base::{NoMemory, Place, is_before};
 use std::alloc::Global;
 
 /// A place of code that may be patched over by any one of its replacements, or stay.
-#[derive(Clone, Copy, Debug, PartialEq, Eq)]
+#[derive(Clone, Copy, PartialEq, Eq)]
 pub struct AlternativesSite {
     /// Where it begins.
     pub start: Place,

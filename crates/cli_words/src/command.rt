@@ -2,7 +2,7 @@ use crate::options::{CheckOptions, EntryRules};
 use x86_map::Map;
 
 /// What the words of a command line ask for.
-#[derive(Debug, Drop)]
+#[derive(Drop)]
 pub enum Command {
     /// `check IN OUT` and its options: check the object `input`, and write it to `output` with its tables.
     Check {

@@ -2,7 +2,7 @@ use ot_base::Options;
 use x86_map::Map;
 
 /// What the options of `check` ask for.
-#[derive(Clone, Copy, Debug, PartialEq, Eq)]
+#[derive(Clone, Copy, PartialEq, Eq)]
 pub struct CheckOptions {
     /// The opcode map by which code is read.
     pub map: Map,
@@ -13,7 +13,7 @@ pub struct CheckOptions {
 }
 
 /// Which entry rules the options of `entry` ask for.
-#[derive(Clone, Copy, Debug, PartialEq, Eq)]
+#[derive(Clone, Copy, PartialEq, Eq)]
 pub struct EntryRules {
     /// Code that isn't instrumented calls no code that is.
     pub noinstr: bool,

@@ -4,7 +4,7 @@ ghost use Rattle.std.specs.Prelude.{◌≡◌, option_map};
 ghost use Rattle.cli_words.specs.Words.{command_named, file_after, function_after, is_check_option, is_common_option, is_entry_option, is_function_option, is_names_option, is_option, is_option_of, is_same_option, is_show_option, places_of};
 
 /// The word of a command.
-#[derive(Clone, Copy, Debug, PartialEq, Eq)]
+#[derive(Clone, Copy, PartialEq, Eq)]
 pub enum CommandWord {
     /// `check`.
     Check,

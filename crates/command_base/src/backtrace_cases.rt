@@ -17,7 +17,7 @@ use state_ways::{Clash, find_clashes};
 use std::alloc::Global;
 
 /// A warning, and what is found of it.
-#[derive(Clone, Copy, Debug, PartialEq, Eq)]
+#[derive(Clone, Copy)]
 pub(crate) struct Case {
     /// The warning.
     pub(crate) warning: Warning,

@@ -8,7 +8,7 @@ use ot_base::Place;
 use symbols_relocs::{Function, Index};
 
 /// A place in a function.
-#[derive(Clone, Copy, Debug, PartialEq, Eq)]
+#[derive(Clone, Copy, PartialEq, Eq)]
 pub struct Holder {
     /// The function, by the lowest number of its symbols.
     pub sym: u32,

@@ -16,7 +16,7 @@ use program_graph::Graph;
 use std::alloc::Global;
 
 /// A place, and the first points there of those that were looked at.
-#[derive(Clone, Copy, Debug, PartialEq, Eq)]
+#[derive(Clone, Copy)]
 pub(crate) struct Spot {
     /// The place.
     pub(crate) place: Place,

@@ -7,7 +7,7 @@ use flow_defs::FlowFault;
 use std::fmt;
 
 /// What keeps an object's program from being checked, in words. Want of memory has none.
-#[derive(Clone, Copy, Debug, PartialEq, Eq)]
+#[derive(Clone, Copy, PartialEq, Eq)]
 pub struct FlowFaultText {
     /// What keeps it.
     pub fault: FlowFault,

@@ -1,6 +1,6 @@
 /// How a command ended. Its number, from 0 in the order of the variants, is the program's exit
 /// status.
-#[derive(Clone, Copy, Debug, PartialEq, Eq)]
+#[derive(Clone, Copy, PartialEq, Eq)]
 pub enum Status {
     /// Everything asked for was done.
     Done,

@@ -2,7 +2,7 @@ use cli_words::{UsageFault, UsageKind};
 use std::fmt;
 
 /// Why the words of a command line ask for nothing: the first word at fault, counted from 0, and what is wrong with it.
-#[derive(Clone, Copy, Debug, PartialEq, Eq)]
+#[derive(Clone, Copy, PartialEq, Eq)]
 pub struct Usage {
     /// The number of the word, counted from 0.
     pub word: u64,

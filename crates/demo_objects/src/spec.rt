@@ -11,7 +11,7 @@ use ot_base::NoMemory;
 use std::alloc::Global;
 
 /// What an object is to say. Section 0 and symbol 0, which each object has, are not told.
-#[derive(Debug, Drop)]
+#[derive(Drop)]
 pub struct Spec {
     /// The sections, from number 1 on.
     pub sections: Vec<NewSection>,
@@ -65,7 +65,7 @@ pub fn section(alloc: Global, name: &[u8], flags: u64, body: &[u8]) -> Result<Ne
 }
 
 /// A symbol of an object.
-#[derive(Debug, Drop)]
+#[derive(Drop)]
 pub struct SymSpec {
     /// The name, free of zero bytes.
     pub name: Vec<u8>,
@@ -82,7 +82,7 @@ pub struct SymSpec {
 }
 
 /// A relocation of a section.
-#[derive(Clone, Copy, Debug, PartialEq, Eq)]
+#[derive(Clone, Copy, PartialEq, Eq)]
 pub struct RelSpec {
     /// The number of the section that it changes.
     pub sec: u32,

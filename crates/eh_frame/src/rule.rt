@@ -3,7 +3,7 @@
 use ot_base::Place;
 
 /// The register from which the canonical frame address is counted.
-#[derive(Clone, Copy, Debug, PartialEq, Eq)]
+#[derive(Clone, Copy, PartialEq, Eq)]
 pub enum CfaReg {
     /// rsp, DWARF's register 7.
     Rsp,
@@ -12,7 +12,7 @@ pub enum CfaReg {
 }
 
 /// How the caller's frame is found at a place.
-#[derive(Clone, Copy, Debug, PartialEq, Eq)]
+#[derive(Clone, Copy, PartialEq, Eq)]
 pub enum CfaRule {
     /// The return address isn't known: there is no caller's frame to find.
     Undefined,
@@ -28,7 +28,7 @@ pub enum CfaRule {
 }
 
 /// A rule and the place from which on it holds.
-#[derive(Clone, Copy, Debug, PartialEq, Eq)]
+#[derive(Clone, Copy, PartialEq, Eq)]
 pub struct PlacedRule {
     /// The first place that has the rule.
     pub place: Place,

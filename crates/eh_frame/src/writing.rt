@@ -16,7 +16,7 @@ use ot_base::{NoMemory, PlacedRow};
 use std::alloc::Global;
 
 /// The bodies of the two call frame sections.
-#[derive(Debug, Drop)]
+#[derive(Drop)]
 pub struct EhSections {
     /// The body of `.eh_frame`: the CIE, an entry for each text section that has rows, and the terminator.
     pub body: Vec<u8>,

@@ -1,7 +1,7 @@
 //! Symbols and relocations as they are lent.
 
 /// Where a symbol is defined, `st_shndx`.
-#[derive(Clone, Copy, Debug, PartialEq, Eq)]
+#[derive(Clone, Copy, PartialEq, Eq)]
 pub enum Home {
     /// `SHN_UNDEF`.
     Undefined,
@@ -15,7 +15,7 @@ pub enum Home {
 
 /// A symbol, `Elf64_Sym`. Its name is read by [`name_of_symbol`](crate::Object::name_of_symbol) and
 /// its kin alone.
-#[derive(Clone, Copy, Debug, PartialEq, Eq)]
+#[derive(Clone, Copy, PartialEq, Eq)]
 pub struct Symbol {
     /// The high four bits of `st_info`.
     pub bind: u8,
@@ -32,7 +32,7 @@ pub struct Symbol {
 }
 
 /// A relocation, `Elf64_Rela`.
-#[derive(Clone, Copy, Debug, PartialEq, Eq)]
+#[derive(Clone, Copy, PartialEq, Eq)]
 pub struct Reloc {
     /// `r_offset`, in bytes from the beginning of the section that it changes.
     pub offset: u64,

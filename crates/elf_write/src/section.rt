@@ -3,7 +3,7 @@
 /// A section to add to an object: the fields of its header that the caller chooses (ELF-64 gABI,
 /// section header), its name and its body. Its address is 0, and its offset and size are those of
 /// its body in the new file.
-#[derive(Debug, Drop)]
+#[derive(Drop)]
 pub struct NewSection {
     /// The name, free of zero bytes. The zero byte that ends it in the name table isn't part of it.
     pub name: Vec<u8>,

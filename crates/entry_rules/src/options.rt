@@ -1,7 +1,7 @@
 //! What is asked for.
 
 /// Which of the entry rules are asked for.
-#[derive(Clone, Copy, Debug, PartialEq, Eq)]
+#[derive(Clone, Copy, PartialEq, Eq)]
 pub struct EntryOptions {
     /// Rule 51: code that isn't instrumented may not call code that is.
     pub noinstr: bool,

@@ -5,7 +5,7 @@ use machine_defs::EdgeKind;
 use ot_base::Place;
 
 /// Whether a branch may cross between a checked function and code of no function.
-#[derive(Clone, Copy, Debug, PartialEq, Eq)]
+#[derive(Clone, Copy, PartialEq, Eq)]
 pub enum Crossing {
     /// It may.
     MayCross,
@@ -14,7 +14,7 @@ pub enum Crossing {
 }
 
 /// Where a direct call or branch goes, by its relocation and its displacement.
-#[derive(Clone, Copy, Debug, PartialEq, Eq)]
+#[derive(Clone, Copy, PartialEq, Eq)]
 pub enum Destination {
     /// To this place of the object.
     ToPlace {
@@ -37,7 +37,7 @@ pub enum Destination {
 }
 
 /// How control comes to a place that a branch, a static branch or an exception entry leads to.
-#[derive(Clone, Copy, Debug, PartialEq, Eq)]
+#[derive(Clone, Copy, PartialEq, Eq)]
 pub enum Way {
     /// It doesn't: the place is none to go to from there.
     Bad,

@@ -3,7 +3,7 @@
 /// A target that is bad, or that lies inside an alternatives site (`Marks`), has no edge, and neither has a
 /// point of an unchecked function. Arriving at a site's start means one edge to the first instruction of its
 /// code and of each of its replacements.
-#[derive(Clone, Copy, Debug, PartialEq, Eq, PartialOrd, Ord)]
+#[derive(Clone, Copy, PartialEq, Eq, PartialOrd, Ord)]
 pub enum EdgeKind {
     /// To what follows the point, behind which execution goes on: from every instruction but an
     /// unconditional or indirect jump, a call within a function (`Hop`), a return, a far branch or system call, a
@@ -24,7 +24,7 @@ pub enum EdgeKind {
 }
 
 /// Where an instruction's control may go next, and how.
-#[derive(Clone, Copy, Debug, PartialEq, Eq)]
+#[derive(Clone, Copy, PartialEq, Eq)]
 pub struct Edge {
     /// The number of the point that it goes to.
     pub to: u32,
@@ -40,7 +40,7 @@ pub struct Edge {
 ///
 /// The start of an unchecked function is no entry: a call or jump there is one to code outside, with that
 /// function's symbol.
-#[derive(Clone, Copy, Debug, PartialEq, Eq)]
+#[derive(Clone, Copy, PartialEq, Eq)]
 pub enum Role {
     /// Neither a call nor a way out of its function: also a branch or call whose own target is bad, a call of
     /// a place that is no entry, a call within a function (`Hop`), and a jump through a recognised jump table.
@@ -69,7 +69,7 @@ pub enum Role {
 /// What is wrong with an instruction: with where its control goes, or with the number by which it moves the stack. A
 /// target is one of its branch or call, of a
 /// static branch or an exception entry at its place, or of its jump table.
-#[derive(Clone, Copy, Debug, PartialEq, Eq)]
+#[derive(Clone, Copy, PartialEq, Eq)]
 pub struct Marks {
     /// A target is no place to go. A branch or call is named by a relocation of a type other than PC32 and
     /// PLT32, or on a short branch, or by a symbol that is defined outside the text; it goes to no boundary of

@@ -24,7 +24,7 @@ use program_model::{Program, Region, down, may_go_back, up};
 use std::alloc::{AllocError, Global};
 
 /// A promise of an option.
-#[derive(Clone, Copy, Debug, PartialEq)]
+#[derive(Clone, Copy, PartialEq)]
 pub enum Promise {
     /// `fp`: a call is made with a frame pointer.
     FramePointer,

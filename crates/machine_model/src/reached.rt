@@ -10,7 +10,7 @@ use program_model::{Program, may_return, target_may_return};
 use std::alloc::{AllocError, Global};
 
 /// A point to which control comes with user access on or off, in a frame whose function expects it on or off.
-#[derive(Clone, Copy, Debug, PartialEq)]
+#[derive(Clone, Copy, PartialEq)]
 pub struct Reached {
     pub point: u32,
     pub access: bool,

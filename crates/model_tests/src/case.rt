@@ -203,7 +203,7 @@ pub struct Accepted {
 }
 
 /// How a run goes wrong.
-#[derive(Clone, Copy, Debug, PartialEq)]
+#[derive(Clone, Copy, PartialEq)]
 pub enum Wrong {
     /// The stack is wrecked.
     Wrecked,

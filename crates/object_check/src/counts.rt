@@ -10,7 +10,7 @@ use elf_objects::Object;
 use object_points::Linked;
 
 /// How much code an object has.
-#[derive(Clone, Copy, Debug, PartialEq, Eq)]
+#[derive(Clone, Copy, PartialEq, Eq)]
 pub struct CodeCounts {
     /// Its functions, parts included.
     pub functions: u32,

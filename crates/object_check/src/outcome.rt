@@ -4,7 +4,7 @@ use crate::counts::CodeCounts;
 use ot_base::{PlacedRow, Warning};
 
 /// What the check of an object comes to.
-#[derive(Debug, Drop)]
+#[derive(Drop)]
 pub enum ObjectVerdict {
     /// No rule is broken that is asked for.
     Accepted {

@@ -9,7 +9,7 @@ use x86_text::TextFaultText;
 
 /// Why the code of an object isn't read, in the words of the reader that refuses it. Want of memory has no
 /// words.
-#[derive(Clone, Copy, Debug, PartialEq, Eq)]
+#[derive(Clone, Copy, PartialEq, Eq)]
 pub struct LinkFaultText<'a> {
     /// Why it isn't read.
     pub fault: LinkFault,

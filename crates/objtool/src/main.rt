@@ -1,16 +1,13 @@
 //! The program: the command of its words over the system's files and output, the exit status, and beside them a line that helps with what is at fault.
 #![tactic(auto)]
 
-mod advice;
-mod known_words;
 mod last_line;
-mod nearest;
 
 ghost use Rattle.std.specs.Prelude.{◌≡◌};
 ghost use Rattle.command_base.specs.Status.{exit_code};
 
-use crate::advice::{refusal_line, usage_line};
 use crate::last_line::LastLine;
+use advice::{refusal_line, usage_line};
 use objtool_cli::{Status, run};
 use ot_files::{StdFiles, StdSink};
 use std::alloc::Global;

@@ -2,7 +2,7 @@ use entry_rules::EntryOptions;
 use x86_map::Map;
 
 /// What `entry` is asked to do.
-#[derive(Clone, Copy, Debug)]
+#[derive(Clone, Copy)]
 pub struct EntryAsked<'a> {
     /// The name of the object.
     pub input: &'a str,

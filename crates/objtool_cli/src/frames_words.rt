@@ -1,7 +1,7 @@
 use x86_map::Map;
 
 /// What `cfi` is asked to do.
-#[derive(Clone, Copy, Debug)]
+#[derive(Clone, Copy)]
 pub struct CfiAsked<'a> {
     /// The name of the object to check.
     pub input: &'a str,

@@ -1,7 +1,7 @@
 use x86_map::Map;
 
 /// What `show` is asked to do.
-#[derive(Clone, Copy, Debug)]
+#[derive(Clone, Copy)]
 pub struct ShowAsked<'a> {
     /// The name of the object.
     pub input: &'a str,

@@ -1,7 +1,7 @@
 use x86_map::Map;
 
 /// What `sites` is asked to do.
-#[derive(Clone, Copy, Debug)]
+#[derive(Clone, Copy)]
 pub struct SitesAsked<'a> {
     /// The name of the object.
     pub input: &'a str,

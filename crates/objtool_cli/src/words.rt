@@ -1,7 +1,7 @@
 use cli_words::CheckOptions;
 
 /// What `check` is asked to do.
-#[derive(Clone, Copy, Debug)]
+#[derive(Clone, Copy)]
 pub struct Check<'a> {
     /// The name of the object to check.
     pub input: &'a str,

@@ -2,7 +2,7 @@ use crate::op::Op;
 
 /// An instruction: one that was decoded, or the padding behind a replacement that is shorter than the
 /// place it is patched over.
-#[derive(Clone, Copy, Debug, PartialEq, Eq)]
+#[derive(Clone, Copy, PartialEq, Eq)]
 pub struct Insn {
     /// How many bytes it has. A decoded one has 1 to 15. A padding Nop has as many as its replacement
     /// leaves over, up to 255.

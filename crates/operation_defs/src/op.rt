@@ -10,7 +10,7 @@
 /// register where its opcode or ModRM names one as a destination, in any width; AH, CH, DH and BH
 /// belong to no register that counts here. Displacements and immediates are sign-extended; `rel`
 /// counts from the instruction's end.
-#[derive(Clone, Copy, Debug, PartialEq, Eq)]
+#[derive(Clone, Copy, PartialEq, Eq)]
 pub enum Op {
     /// None of the others: writes neither rsp nor rbp, may store, and goes on.
     Plain,

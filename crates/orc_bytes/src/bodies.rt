@@ -11,7 +11,7 @@ use ot_base::{NoMemory, PlacedRow};
 use std::alloc::Global;
 
 /// The bodies of the three ORC sections.
-#[derive(Debug, Drop)]
+#[derive(Drop)]
 pub struct OrcSections {
     /// The body of `.orc_unwind`: six bytes a row.
     pub orc: Vec<u8>,

@@ -79,7 +79,7 @@ pub enum LayoutFault {
 }
 
 /// Why a line of a layout isn't read.
-#[derive(Clone, Copy, Debug, PartialEq, Eq)]
+#[derive(Clone, Copy)]
 pub(crate) enum LineFault {
     /// What is wrong with it.
     Why(LayoutWhy),

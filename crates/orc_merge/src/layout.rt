@@ -11,7 +11,7 @@ use std::collections::BTreeSet;
 use std::marker::Model;
 
 /// A file of a layout, and where its sections lie.
-#[derive(Debug, Drop)]
+#[derive(Drop)]
 pub struct LayoutFile {
     /// The file's name: one or more bytes from 21 to 7E.
     pub name: String,

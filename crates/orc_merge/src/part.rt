@@ -2,7 +2,7 @@ use ot_base::PlacedRow;
 use table_defs::Range;
 
 /// The rows of one object, and where its text sections lie in memory.
-#[derive(Debug, Drop)]
+#[derive(Drop)]
 pub struct Part {
     /// The rows, at their places in the object.
     pub rows: Vec<PlacedRow>,

@@ -36,7 +36,7 @@ pub enum ImageFault {
 impl Error for ImageFault {}
 
 /// Why a line isn't read.
-#[derive(Clone, Copy, Debug, PartialEq, Eq)]
+#[derive(Clone, Copy)]
 pub(crate) enum LineFault {
     /// What is wrong with it.
     Why(ImageWhy),

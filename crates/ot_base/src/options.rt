@@ -1,5 +1,5 @@
 /// Which optional rules a check looks at.
-#[derive(Clone, Copy, Debug, PartialEq, Eq)]
+#[derive(Clone, Copy, PartialEq, Eq)]
 pub struct Options {
     /// Each call is made with a frame pointer set up.
     pub fp: bool,

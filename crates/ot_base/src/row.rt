@@ -6,7 +6,7 @@ use crate::place::Place;
 /// `sp_reg` and `sp_offset` give an address. In a row of kind CALL it is the frame's top, right above
 /// the return address, which is the caller's stack pointer. In one of kind REGS or REGS_PARTIAL the
 /// saved registers begin there.
-#[derive(Clone, Copy, Debug, PartialEq, Eq)]
+#[derive(Clone, Copy, PartialEq, Eq)]
 pub struct Row {
     /// Bytes that are added to what `sp_reg` gives.
     pub sp_offset: i16,
@@ -28,7 +28,7 @@ pub struct Row {
 }
 
 /// A row and the place from which on it holds.
-#[derive(Clone, Copy, Debug, PartialEq, Eq)]
+#[derive(Clone, Copy, PartialEq, Eq)]
 pub struct PlacedRow {
     /// The first place that the row covers.
     pub place: Place,

@@ -8,7 +8,7 @@ use crate::place::Place;
 use crate::rules;
 
 /// A rule that is broken at a place.
-#[derive(Clone, Copy, Debug, PartialEq, Eq)]
+#[derive(Clone, Copy, PartialEq, Eq)]
 pub struct Warning {
     /// Where it is broken.
     pub place: Place,

@@ -6,7 +6,7 @@ use ot_base::Place;
 use state_defs::HintState;
 
 /// A section of code.
-#[derive(Clone, Copy, Debug, PartialEq, Eq)]
+#[derive(Clone, Copy, PartialEq, Eq)]
 pub struct TextSection {
     /// Its number in the section header table.
     pub sec: u32,
@@ -15,7 +15,7 @@ pub struct TextSection {
 }
 
 /// An alternatives site: the code there may be replaced by any one of its replacements, or stay.
-#[derive(Clone, Copy, Debug, PartialEq, Eq)]
+#[derive(Clone, Copy, PartialEq, Eq)]
 pub struct GraphSite {
     /// Where it begins.
     pub start: Place,
@@ -24,7 +24,7 @@ pub struct GraphSite {
 }
 
 /// Whose code some points are.
-#[derive(Clone, Copy, Debug, PartialEq, Eq)]
+#[derive(Clone, Copy, PartialEq, Eq)]
 pub struct Owner {
     /// The function that holds them, by the number of its symbol.
     pub function: Option<u32>,
@@ -37,7 +37,7 @@ pub struct Owner {
 }
 
 /// What a point has of unwind hints, which has one or is meant by one.
-#[derive(Clone, Copy, Debug, PartialEq, Eq)]
+#[derive(Clone, Copy, PartialEq, Eq)]
 pub struct Hinted {
     /// The hint at its place.
     pub hint: Option<HintState>,
@@ -50,7 +50,7 @@ pub struct Hinted {
 }
 
 /// What a point of a replacement has. It runs where its bytes don't stand.
-#[derive(Clone, Copy, Debug, PartialEq, Eq)]
+#[derive(Clone, Copy, PartialEq, Eq)]
 pub struct Replaced {
     /// Whose it is: k in the k-th replacement.
     pub variant: u32,
@@ -61,7 +61,7 @@ pub struct Replaced {
 }
 
 /// Where among the points the plain point stands that is right before a plain point, in its section.
-#[derive(Clone, Copy, Debug, PartialEq, Eq)]
+#[derive(Clone, Copy, PartialEq, Eq)]
 pub enum Previous {
     /// Right before it: its number is one less.
     Below,
@@ -73,7 +73,7 @@ pub enum Previous {
 
 /// What few points have otherwise than most. A usual point has no hint, and is an instruction of the object's code,
 /// which runs where it stands; the one right before it has the number below.
-#[derive(Clone, Copy, Debug, PartialEq, Eq)]
+#[derive(Clone, Copy, PartialEq, Eq)]
 pub struct Rare {
     /// What a point of a replacement has.
     pub replaced: Option<Replaced>,
@@ -85,7 +85,7 @@ pub struct Rare {
 
 /// Where control may go from a point, beside its edges. Of a usual point it goes nowhere else, and nothing is wrong with
 /// where it goes.
-#[derive(Clone, Copy, Debug, PartialEq, Eq)]
+#[derive(Clone, Copy, PartialEq, Eq)]
 pub struct Transfer {
     /// What the point is to its function.
     pub role: Role,
@@ -97,7 +97,7 @@ pub struct Transfer {
 
 /// What a point has that others have too: all but where it stands and whose it is. Points of one kind mostly name it by
 /// one number.
-#[derive(Clone, Copy, Debug, PartialEq, Eq)]
+#[derive(Clone, Copy, PartialEq, Eq)]
 pub struct PointKind {
     /// What its instruction does.
     pub op: Op,
@@ -117,7 +117,7 @@ pub struct PointKind {
 
 /// An instruction of the object's code, or one of a replacement. What many points have in common stands in lists of its
 /// own, and a point has the number.
-#[derive(Clone, Copy, Debug, PartialEq, Eq)]
+#[derive(Clone, Copy, PartialEq, Eq)]
 pub struct GraphPoint {
     /// The section of its bytes, by its number in the section header table.
     pub section: u32,

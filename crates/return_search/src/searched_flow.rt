@@ -5,7 +5,7 @@ ghost use Rattle.std.specs.Prelude.{◌≡◌, ◌<◌, length};
 use machine_defs::Edge;
 
 /// What a point is to a return.
-#[derive(Clone, Copy, Debug, PartialEq, Eq)]
+#[derive(Clone, Copy, PartialEq, Eq)]
 pub enum Exit {
     /// A return comes from it: it returns, jumps anywhere, or jumps to code outside that may return.
     Leaves,

@@ -12,7 +12,7 @@ use ot_base::{NoMemory, Place};
 use std::alloc::Global;
 
 /// The bodies of the section of a list, and of the section of its relocations.
-#[derive(Debug, Drop)]
+#[derive(Drop)]
 pub struct SiteSection {
     /// Four bytes a place, zero until they are relocated.
     pub body: Vec<u8>,
@@ -21,7 +21,7 @@ pub struct SiteSection {
 }
 
 /// The bodies of the sections of three lists.
-#[derive(Debug, Drop)]
+#[derive(Drop)]
 pub struct SiteSections {
     /// Those of `.retpoline_sites`.
     pub retpoline: SiteSection,

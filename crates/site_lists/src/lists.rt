@@ -3,7 +3,7 @@
 use ot_base::Place;
 
 /// Three lists of places of an object's code.
-#[derive(Debug, Drop)]
+#[derive(Drop)]
 pub struct SiteLists {
     /// Direct calls and branches to a thunk `__x86_indirect_thunk_..`, of `.retpoline_sites`.
     pub retpoline: Vec<Place>,

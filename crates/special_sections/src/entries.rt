@@ -3,7 +3,7 @@
 use ot_base::Place;
 
 /// Instructions that may be replaced, an entry of `.altinstructions` (Linux 6.6, `struct alt_instr`).
-#[derive(Clone, Copy, Debug, PartialEq, Eq)]
+#[derive(Clone, Copy, PartialEq, Eq)]
 pub struct AltEntry {
     /// Where the original begins.
     pub original: Place,
@@ -20,7 +20,7 @@ pub struct AltEntry {
 }
 
 /// A static branch, an entry of `__jump_table` (`struct jump_entry`).
-#[derive(Clone, Copy, Debug, PartialEq, Eq)]
+#[derive(Clone, Copy, PartialEq, Eq)]
 pub struct BranchEntry {
     /// The instruction that is a jump or none.
     pub code: Place,
@@ -29,7 +29,7 @@ pub struct BranchEntry {
 }
 
 /// An exception entry, of `__ex_table` (`struct exception_table_entry`).
-#[derive(Clone, Copy, Debug, PartialEq, Eq)]
+#[derive(Clone, Copy, PartialEq, Eq)]
 pub struct FixEntry {
     /// The instruction that may fault.
     pub insn: Place,
@@ -38,7 +38,7 @@ pub struct FixEntry {
 }
 
 /// A hint on the stack, an entry of `.discard.unwind_hints` (`struct unwind_hint`).
-#[derive(Clone, Copy, Debug, PartialEq, Eq)]
+#[derive(Clone, Copy, PartialEq, Eq)]
 pub struct HintEntry {
     /// The instruction before which it holds.
     pub place: Place,

@@ -8,7 +8,7 @@ use elf_objects::Object;
 use ot_base::Place;
 
 /// Up to where in its section a place may stand.
-#[derive(Clone, Copy, Debug, PartialEq, Eq)]
+#[derive(Clone, Copy, PartialEq, Eq)]
 pub enum Bound {
     /// Below the section's end.
     BelowEnd,

@@ -14,7 +14,7 @@ use ot_base::Place;
 use symbols_relocs::{is_pointer, named_place};
 
 /// Where the places of a list have to be.
-#[derive(Clone, Copy, Debug, PartialEq, Eq)]
+#[derive(Clone, Copy)]
 pub(crate) enum Judged {
     /// In a text section, below its size.
     InText,

@@ -213,7 +213,7 @@ fn points_started(
 }
 
 /// A point of a replacement, by its site.
-#[derive(Clone, Copy, Debug, PartialEq, Eq, PartialOrd, Ord)]
+#[derive(Clone, Copy, PartialEq, Eq, PartialOrd, Ord)]
 struct SitedPoint {
     /// How many sites begin where it runs or before, as far as 32 bits tell it.
     site: u32,

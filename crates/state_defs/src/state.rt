@@ -1,6 +1,6 @@
 /// How far rsp is below the frame's top, in bytes. The top of a call frame is the value of rsp right
 /// before the call (DWARF's CFA), so the return address stands 8 bytes below it.
-#[derive(Clone, Copy, Debug, PartialEq, Eq, PartialOrd, Ord)]
+#[derive(Clone, Copy, PartialEq, Eq, PartialOrd, Ord)]
 pub enum Depth {
     /// By exactly this many bytes.
     Known(i64),
@@ -10,7 +10,7 @@ pub enum Depth {
 }
 
 /// Where the caller's rbp is.
-#[derive(Clone, Copy, Debug, PartialEq, Eq, PartialOrd, Ord)]
+#[derive(Clone, Copy, PartialEq, Eq, PartialOrd, Ord)]
 pub enum BpHome {
     /// In rbp. No word of the frame is looked to for it.
     Same,
@@ -20,7 +20,7 @@ pub enum BpHome {
 }
 
 /// How a hint ends the stack.
-#[derive(Clone, Copy, Debug, PartialEq, Eq, PartialOrd, Ord)]
+#[derive(Clone, Copy, PartialEq, Eq, PartialOrd, Ord)]
 pub enum EndKind {
     /// Nothing is known of the frame (`UNWIND_HINT_UNDEFINED`). A walk stops there and says so.
     Undefined,
@@ -29,7 +29,7 @@ pub enum EndKind {
 }
 
 /// What is known of the stack before an instruction. All numbers are bytes.
-#[derive(Clone, Copy, Debug, PartialEq, Eq, PartialOrd, Ord)]
+#[derive(Clone, Copy, PartialEq, Eq, PartialOrd, Ord)]
 pub enum State {
     /// In a call frame.
     ///
@@ -59,7 +59,7 @@ pub enum State {
 }
 
 /// What an unwind hint does at its place.
-#[derive(Clone, Copy, Debug, PartialEq, Eq)]
+#[derive(Clone, Copy, PartialEq, Eq)]
 pub enum HintState {
     /// The state there is this one, whatever control brings.
     Set(State),

@@ -14,7 +14,7 @@ use std::alloc::Global;
 use std::marker::Model;
 
 /// The number of a state in a pool.
-#[derive(Clone, Copy, Debug, PartialEq, Eq)]
+#[derive(Clone, Copy, PartialEq, Eq)]
 pub struct StateNo(pub u32);
 
 /// Different states with numbers from 0 on, in a region that is reserved once. Contracts see it as the list of its

@@ -24,7 +24,7 @@ use state_defs::{Depth, State};
 use std::alloc::Global;
 
 /// An edge that brings to a kept point another state than the one that is kept there.
-#[derive(Clone, Copy, Debug, PartialEq, Eq)]
+#[derive(Clone, Copy, PartialEq, Eq)]
 pub struct Clash {
     /// The number of the point from which it leads.
     pub from: u32,

@@ -6,7 +6,7 @@ ghost use Rattle.state_ways.specs.Ways.{along, is_turn as is_turn_kind};
 use machine_defs::EdgeKind;
 
 /// How control came to a point.
-#[derive(Clone, Copy, Debug, PartialEq, Eq)]
+#[derive(Clone, Copy, PartialEq, Eq)]
 pub enum WayKind {
     /// An entry is entered there.
     Entry,
@@ -25,7 +25,7 @@ pub enum WayKind {
 }
 
 /// A step of a way: how control came to a point.
-#[derive(Clone, Copy, Debug, PartialEq, Eq)]
+#[derive(Clone, Copy, PartialEq, Eq)]
 pub struct WayStep {
     /// The number of the point.
     pub point: u32,

@@ -3,7 +3,7 @@
 use ot_base::Place;
 
 /// A function: the symbols of type `STT_FUNC` with one start in a text section and a size above 0.
-#[derive(Clone, Copy, Debug, PartialEq, Eq)]
+#[derive(Clone, Copy, PartialEq, Eq)]
 pub struct Function {
     /// Where it starts.
     pub start: Place,

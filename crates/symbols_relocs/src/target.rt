@@ -12,7 +12,7 @@ use elf_objects::{Home, Object, R_X86_64_PC32, R_X86_64_PLT32, Reloc, STB_WEAK, 
 use ot_base::Place;
 
 /// Where a direct call or branch goes.
-#[derive(Clone, Copy, Debug, PartialEq, Eq)]
+#[derive(Clone, Copy, PartialEq, Eq)]
 pub enum Target {
     /// To this place of a text section.
     Inside(Place),

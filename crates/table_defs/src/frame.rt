@@ -1,5 +1,5 @@
 /// The registers that a walk begins with.
-#[derive(Clone, Copy, Debug, PartialEq, Eq)]
+#[derive(Clone, Copy, PartialEq, Eq)]
 pub struct Regs {
     /// The address of the next instruction.
     pub ip: u64,
@@ -10,7 +10,7 @@ pub struct Regs {
 }
 
 /// One frame that a walk gives: what the caller goes on with.
-#[derive(Clone, Copy, Debug, PartialEq, Eq)]
+#[derive(Clone, Copy, PartialEq, Eq)]
 pub struct Frame {
     /// Where the caller goes on: the return address, or the address of the interrupted instruction.
     pub ra: u64,
@@ -21,7 +21,7 @@ pub struct Frame {
 }
 
 /// Why a walk ended.
-#[derive(Clone, Copy, Debug, PartialEq, Eq)]
+#[derive(Clone, Copy, PartialEq, Eq)]
 pub enum Stop {
     /// The address looked up lies in no placed section.
     Outside,

@@ -1,5 +1,5 @@
 /// Where a text section lies in memory.
-#[derive(Clone, Copy, Debug, PartialEq, Eq)]
+#[derive(Clone, Copy, PartialEq, Eq)]
 pub struct Range {
     /// The section's number in the section header table.
     pub sec: u32,

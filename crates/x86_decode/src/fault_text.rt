@@ -7,7 +7,7 @@ use std::fmt;
 
 /// Why no instruction stands at the front of the bytes, in words: `opcode outside the map: ` and the bytes that were seen,
 /// two hexadecimal digits each, `instruction cut after N bytes` or `instruction too long`.
-#[derive(Clone, Copy, Debug, PartialEq, Eq)]
+#[derive(Clone, Copy, PartialEq, Eq)]
 pub struct DecodeFaultText<'a> {
     /// What `decode` answered.
     pub fault: DecodeFault,

@@ -1,5 +1,5 @@
 /// Which opcode map is asked.
-#[derive(Clone, Copy, Debug, PartialEq, Eq)]
+#[derive(Clone, Copy, PartialEq, Eq)]
 pub enum Map {
     /// The instructions of kernel code without vectors and virtual machines.
     Base,

@@ -20,7 +20,7 @@ use crate::vector::Vector;
 /// What stands before an opcode, as far as the opcode map asks for it (SDM, volume 2, section 2.1.1), and which map is asked.
 /// The segment overrides of CS, DS, ES and SS aren't here: in 64-bit mode they change nothing that the map tells apart (3E
 /// before FF /2 and /4 is NOTRACK).
-#[derive(Clone, Copy, Debug, PartialEq, Eq)]
+#[derive(Clone, Copy, PartialEq, Eq)]
 pub struct Prefixes {
     /// Which map is asked.
     pub map: Map,

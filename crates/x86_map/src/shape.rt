@@ -1,6 +1,6 @@
 /// Which general register an instruction writes, of those that ModRM, the opcode or VEX names. What it does to others, as MUL
 /// to rDX or PUSH to rSP, isn't said here.
-#[derive(Clone, Copy, Debug, PartialEq, Eq)]
+#[derive(Clone, Copy, PartialEq, Eq)]
 pub enum Write {
     /// None.
     Nothing,
@@ -19,7 +19,7 @@ pub enum Write {
 }
 
 /// Which registers an instruction writes, and of which size.
-#[derive(Clone, Copy, Debug, PartialEq, Eq)]
+#[derive(Clone, Copy, PartialEq, Eq)]
 pub struct Written {
     /// Whether they are byte registers: there the numbers 4 to 7 without a REX are AH, CH, DH and BH.
     pub byte: bool,
@@ -28,7 +28,7 @@ pub struct Written {
 }
 
 /// What follows the opcode, and what is written.
-#[derive(Clone, Copy, Debug, PartialEq, Eq)]
+#[derive(Clone, Copy, PartialEq, Eq)]
 pub struct Shape {
     /// Whether a ModRM byte follows the opcode.
     pub modrm: bool,
@@ -39,7 +39,7 @@ pub struct Shape {
 }
 
 /// What the opcode map says of prefixes and an opcode, and of a ModRM byte where one is given.
-#[derive(Clone, Copy, Debug, PartialEq, Eq)]
+#[derive(Clone, Copy, PartialEq, Eq)]
 pub enum Look {
     /// No instruction has them.
     Refused,

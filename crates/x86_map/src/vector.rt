@@ -16,7 +16,7 @@ ghost use Rattle.x86_map.specs.Vector.{
 
 /// VEX or EVEX: the bytes behind C5, behind C4 or behind 62 (SDM, volume 2, sections 2.3 and 2.7). The bits R, X and B and the
 /// field vvvv are inverted in them.
-#[derive(Clone, Copy, Debug, PartialEq, Eq)]
+#[derive(Clone, Copy, PartialEq, Eq)]
 pub enum Vector {
     /// C5: R vvvv L pp.
     Vex2(u8),

@@ -8,7 +8,7 @@ use x86_decode::DecodeFaultText;
 
 /// Why a body of code isn't read, in words: the place of the first boundary without an instruction, `: `, and why none
 /// stands there. Want of memory has no words.
-#[derive(Clone, Copy, Debug, PartialEq, Eq)]
+#[derive(Clone, Copy, PartialEq, Eq)]
 pub struct TextFaultText<'a> {
     /// What reading the body answered.
     pub fault: TextFault,

@@ -7,8 +7,8 @@ use Rattle.cli_words.specs.declared.fault.UsageKind.TheVariants.{UnknownCommand,
 use Rattle.cli_words.specs.Grammar.{meaning}
 use Rattle.cli_words.specs.Words.{Word}
 use Rattle.ot_base.specs.PlaceText.{escaped}
-use Rattle.objtool.specs.KnownWords.{command_words, options_behind, topic_words}
-use Rattle.objtool.specs.Nearest.{IsNearest}
+use Rattle.advice.specs.KnownWords.{command_words, options_behind, topic_words}
+use Rattle.advice.specs.Nearest.{IsNearest}
 
 -- what of a word is compared with options: all of it, or as far as its first `=`, with it
 abbrev pub option_part : Word → Word

@@ -2,7 +2,7 @@
 
 ghost use Rattle.std.specs.Prelude.{◌≡◌, ◌==◌, IfOk, map};
 ghost use Rattle.std.specs.List.{before_first};
-ghost use Rattle.objtool.specs.KnownWords.{AreCommands, AreOptions, command_words, options_behind, topic_words};
+ghost use Rattle.advice.specs.KnownWords.{AreCommands, AreOptions, command_words, options_behind, topic_words};
 
 use explanations::{is_topic, topics};
 use std::alloc::{AllocError, Global};

@@ -3,7 +3,7 @@ use Rattle.std.specs.Prelude.{◌≡◌, ℕ, ◌≤◌, ◌&&◌, Bool, true, f
 use Rattle.std.specs.Str.{chars}
 use Rattle.strsim.specs.Edits.{levenshtein_row}
 use Rattle.cli_words.specs.Words.{Word}
-use Rattle.objtool.specs.declared.nearest.Candidate.{Candidate}
+use Rattle.advice.specs.declared.nearest.Candidate.{Candidate}
 
 -- how many characters have to be put in, left out or changed to make the other word of the one
 abbrev pub edits : Word → Word → ℕ

@@ -4,8 +4,8 @@ use Rattle.std.proofs.lemmas.Iterator.{YieldsList-from_map_by}
 use Rattle.std.proofs.lemmas.Iterator.Consumers.{map_from_collect, YieldsList-from_filter}
 use Rattle.std.proofs.lemmas.Iterator.Splits.{YieldsList-from_lines}
 use Rattle.explanations.specs.Topics.{is_topic}
-use Rattle.objtool.proofs.Topics.{listed}
-use Rattle.objtool.proofs.known_words.topic_words.Goals as goal
+use Rattle.advice.proofs.Topics.{listed}
+use Rattle.advice.proofs.known_words.topic_words.Goals as goal
 
 pub returns : goal.returns
 returns c =

@@ -3,8 +3,8 @@ use Rattle.std.proofs.Common.{◌≡◌, ℕ, ◌+◌, ◌≤◌, ◌<◌, List,
 use Rattle.std.proofs.lemmas.List.{get_or-map, length-map, take_more}
 use Rattle.std.proofs.lemmas.List.Elements.{All-push, All-weaker, Contains-push}
 use Rattle.cli_words.specs.Words.{Word}
-use Rattle.objtool.specs.declared.nearest.Candidate.{Candidate}
-use Rattle.objtool.specs.Nearest.{IsClosest, edits}
+use Rattle.advice.specs.declared.nearest.Candidate.{Candidate}
+use Rattle.advice.specs.Nearest.{IsClosest, edits}
 
 -- the next word is nearer
 pub changes : (word : Word) (known : List Word) (best next : Candidate) → IsClosest word known (Some best) → next.edits ≡ edits word next.known.now → next.edits < best.edits

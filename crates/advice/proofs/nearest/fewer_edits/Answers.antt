@@ -1,7 +1,7 @@
 use Rattle.std.proofs.Common.{arith, Some}
-use Rattle.objtool.specs.Nearest.{IsClosest}
-use Rattle.objtool.proofs.Closest.{changes}
-use Rattle.objtool.proofs.nearest.fewer_edits.Goals as goal
+use Rattle.advice.specs.Nearest.{IsClosest}
+use Rattle.advice.proofs.Closest.{changes}
+use Rattle.advice.proofs.nearest.fewer_edits.Goals as goal
 
 pub returns-else-best-next : goal.returns-else-best-next
 returns-else-best-next c = λ word known is counted.

@@ -3,7 +3,7 @@
 ghost use Rattle.std.specs.Prelude.{◌≡◌, [], ◌∷◌, ◌++◌, IfOk, List, Some, length, map, option_map};
 ghost use Rattle.std.specs.Str.{chars};
 ghost use Rattle.cli_words.specs.Words.{Word};
-ghost use Rattle.objtool.specs.Nearest.{IsClosest, IsNearest, are_few, edits};
+ghost use Rattle.advice.specs.Nearest.{IsClosest, IsNearest, are_few, edits};
 
 use std::alloc::{AllocError, Global};
 use strsim::levenshtein;

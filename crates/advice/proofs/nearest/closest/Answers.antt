@@ -1,6 +1,6 @@
 use Rattle.std.proofs.Common.{rules}
-use Rattle.objtool.proofs.Closest.{goes_on}
-use Rattle.objtool.proofs.nearest.closest.Goals as goal
+use Rattle.advice.proofs.Closest.{goes_on}
+use Rattle.advice.proofs.nearest.closest.Goals as goal
 
 pub loop-other-preserved : goal.loop-other-preserved
 loop-other-preserved c =

@@ -6,7 +6,7 @@ use Rattle.std.specs.Str.Iter.{split_inclusive_steps, split_inclusive_text, spli
 use Rattle.std.specs.Str.Pattern.{FindsChar}
 use Rattle.std.specs.declared.str.SplitInclusive.{SplitInclusive}
 use Rattle.std.proofs.lemmas.Str.Pattern.{split_once_first, drop_at_char}
-use Rattle.objtool.specs.Advice.{option_part}
+use Rattle.advice.specs.Advice.{option_part}
 
 -- the first `=` of a word stands where it is found
 first : (word : List ℕ) (i j : ℕ) → FindsChar 61 word (Some (i, j)) → j ≡ position_or_len (λ byte. byte == 61) word + 1

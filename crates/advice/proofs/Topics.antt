@@ -5,7 +5,7 @@ use Rattle.std.specs.Str.Lines.{lines}
 use Rattle.explanations.specs.Topics.{is_topic, topics_text}
 use Rattle.explanations.specs.Volumes.{entries, rules_1_to_9, rules_10_to_19, rules_21_to_44, rules_45_to_54, refusals_of_entries, refusals_bad, refusals_f_to_m, refusals_n, refusals_o_to_z}
 use Rattle.cli_words.specs.Words.{Word}
-use Rattle.objtool.specs.KnownWords.{topic_words}
+use Rattle.advice.specs.KnownWords.{topic_words}
 
 -- the topics among the first words of the lines of a text
 abbrev pub topics_in : List ℕ → List Word

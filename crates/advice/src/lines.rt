@@ -2,7 +2,7 @@
 
 ghost use Rattle.std.specs.Prelude.{◌≡◌, [], IfOk, Some, map, option_map, slice_get, slice_index_or, string_bytes};
 ghost use Rattle.explanations.specs.Refusals.{topic_of};
-ghost use Rattle.objtool.specs.Advice.{IsMeant, IsMeantOf, IsUsageLine, asked_for, option_part, quoted, refusal_advice, usage_advice};
+ghost use Rattle.advice.specs.Advice.{IsMeant, IsMeantOf, IsUsageLine, asked_for, option_part, quoted, refusal_advice, usage_advice};
 
 use crate::known_words::{command_words, option_words, topic_words};
 use crate::nearest::nearest;
@@ -126,7 +126,7 @@ fn word_at(words: &[String], at: usize) -> Option<&str>
 }
 
 /// The line on words at fault; none where no word is.
-pub(crate) fn usage_line(alloc: Global, words: &[String]) -> Result<Option<String>, AllocError>
+pub fn usage_line(alloc: Global, words: &[String]) -> Result<Option<String>, AllocError>
     ensures { IfOk result (λ said. IsUsageLine (map string_bytes words.now) (option_map string_bytes said)) }
 {
     match judge_words(alloc, words) {
@@ -141,7 +141,7 @@ pub(crate) fn usage_line(alloc: Global, words: &[String]) -> Result<Option<Strin
 }
 
 /// The line on a refusal that was told by this line; none where no topic explains it.
-pub(crate) fn refusal_line(alloc: Global, line: &[u8]) -> Result<Option<String>, AllocError>
+pub fn refusal_line(alloc: Global, line: &[u8]) -> Result<Option<String>, AllocError>
     ensures { IfOk result (λ said. option_map string_bytes said ≡ option_map refusal_advice (topic_of line.now)) }
 {
     match topic_of_refusal(line) {
