@@ -13,7 +13,7 @@ pub enum NameOf {
 }
 
 /// What there is too much of.
-#[derive(Clone, Copy, PartialEq, Eq)]
+#[derive(Clone, Copy, Debug, PartialEq, Eq)]
 pub enum Counted {
     Sections,
     Symbols,
