@@ -73,16 +73,16 @@ const RULES: [(State, [Option<u8>; 6]); 9] = [
 
 #[test]
 fn states_break_their_rules(rt: HostRuntime) {
-    for (state, want) in RULES {
+    for (row, (state, want)) in RULES.iter().enumerate() {
         let rules = [
-            return_rule(state),
-            sibling_rule(state),
-            switch_rule(state),
-            iret_rule(state),
-            call_rule(state),
-            fit_rule(state),
+            return_rule(*state),
+            sibling_rule(*state),
+            switch_rule(*state),
+            iret_rule(*state),
+            call_rule(*state),
+            fit_rule(*state),
         ];
-        assert!(rt; rules == want, "at {state:?}");
+        assert!(rt; rules == *want, "row {row}");
     }
 }
 
@@ -97,8 +97,8 @@ const ROWS: [(State, State, bool); 5] = [
 
 #[test]
 fn rows_are_compared(rt: HostRuntime) {
-    for (one, other, want) in ROWS {
-        assert!(rt; same_row(one, other) == want, "{one:?} {other:?}");
+    for (row, (one, other, want)) in ROWS.iter().enumerate() {
+        assert!(rt; same_row(*one, *other) == *want, "row {row}");
     }
 }
 

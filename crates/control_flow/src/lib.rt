@@ -29,4 +29,3 @@ pub use entered::entry_of_point;
 pub use graph::flow;
 pub use order::object_is_in_order;
 pub use preceding::previous;
-pub use return_search::{Exit, Flow, Returns, find_returns};

@@ -10,12 +10,12 @@ ghost use Rattle.return_search.specs.Flagged.{AreFlagged};
 ghost use Rattle.control_flow.specs.Listed.{AreDeadEnds, CallsPoint, count_of};
 ghost use Rattle.control_flow.specs.Named.{AreLookedUp};
 
-use crate::Exit;
 use crate::symbol_names::is_listed_name;
 use machine_defs::Role;
 use object_points::PointPlaces;
 use ot_base::{Lists, NoMemory};
 use point_edges::FlowPoints;
+use return_search::Exit;
 use std::alloc::Global;
 
 /// How many points there are.

@@ -20,7 +20,6 @@ ghost use Rattle.control_flow.specs.Numbers.{AreNumbered};
 ghost use Rattle.point_edges.specs.Straight.{IsStraight};
 ghost use Rattle.control_flow.specs.Transfers.{IsTransfer, IsTransferIfBack};
 
-use crate::Exit;
 use crate::listed::{count_points, exit};
 use crate::lone_jumps::LoneJumps;
 use crate::symbol_names::no_names;
@@ -31,6 +30,7 @@ use operation_defs::Insn;
 use ot_base::{Lists, NoMemory};
 use point_edges::{Branch, FlowPoints, branch_at, push_edges, role};
 use program_graph::Transfer;
+use return_search::Exit;
 use std::alloc::Global;
 
 /// The edges of all points, as in a flow.

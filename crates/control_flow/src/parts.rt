@@ -11,7 +11,7 @@ ghost use Rattle.control_flow.specs.Points.{AreMade};
 ghost use Rattle.control_flow.specs.Rares.{AreRares};
 ghost use Rattle.return_search.specs.Shape.{HaveShape as HaveReturnShape};
 ghost use Rattle.control_flow.specs.Transfers.{IsTransferOf};
-ghost use Rattle.control_flow.specs.Ways.{AreWays};
+ghost use Rattle.control_flow.specs.ReturnsOfEdges.{AreReturnsOfEdges};
 
 use crate::hinted::restores_are_points;
 use crate::outgoing::{Outgoing, list_outgoing};
@@ -28,9 +28,9 @@ use program_graph::{GraphParts, GraphSite, Owner, TextSection};
 use return_search::Returns;
 use std::alloc::Global;
 
-/// Where control goes.
+/// What of the graph tells where control goes.
 #[derive(Drop)]
-struct Ways {
+struct EdgeParts {
     /// From which points a return may come, with the edges.
     returns: Returns,
     /// The points that have the edges of another, ascending.
@@ -38,16 +38,16 @@ struct Ways {
     transfers: TransferList,
 }
 
-/// Where control goes from the points.
-fn list_ways(
+/// What tells where control goes from the points.
+fn edge_parts(
     alloc: Global,
     points: &FlowPoints<'_, '_, '_>,
     lists: &Lists,
-) -> Result<Ways, NoMemory>
-    ensures shape { IfOk result (λ ways. HaveReturnShape (count_of points.now) ways.returns) }
-    ensures told { IfOk result (λ ways. AreWays points.now lists.now ways.returns ways.alike.items) }
-    ensures entered { IfOk result (λ ways. AreEntered points.now ways.returns.entered.items (count_of points.now)) }
-    ensures transfers { IfOk result (λ ways. HaveNumbers (IsTransferOf points.now ways.returns) ways.transfers.transfers.items ways.transfers.numbers.items (count_of points.now)) }
+) -> Result<EdgeParts, NoMemory>
+    ensures shape { IfOk result (λ made. HaveReturnShape (count_of points.now) made.returns) }
+    ensures told { IfOk result (λ made. AreReturnsOfEdges points.now lists.now made.returns made.alike.items) }
+    ensures entered { IfOk result (λ made. AreEntered points.now made.returns.entered.items (count_of points.now)) }
+    ensures transfers { IfOk result (λ made. HaveNumbers (IsTransferOf points.now made.returns) made.transfers.transfers.items made.transfers.numbers.items (count_of points.now)) }
 {
     let Outgoing {
         edges,
@@ -57,16 +57,16 @@ fn list_ways(
     } = list_outgoing(alloc, points, lists)?;
     let returns = returns_of(alloc, points, lists, edges, exits)?;
     let transfers = settle_transfers(points, transfers, &returns)?;
-    Ok(Ways {
+    Ok(EdgeParts {
         returns,
         alike,
         transfers,
     })
 }
 
-/// The points, with what they have besides.
+/// What of the graph tells of the points themselves.
 #[derive(Drop)]
-struct OwnedPoints {
+struct PointParts {
     list: PointList,
     /// Whose code they are.
     owners: Vec<Owner>,
@@ -76,13 +76,13 @@ struct OwnedPoints {
     restores: Vec<u32>,
 }
 
-/// The points, where it is told from which of them a return may come, and where their transfers stand.
-fn own_points(
+/// What tells of the points, where it is told from which of them a return may come, and where their transfers stand.
+fn point_parts(
     alloc: Global,
     points: &FlowPoints<'_, '_, '_>,
     returns: &Returns,
     transfers: &[u32],
-) -> Result<OwnedPoints, NoMemory>
+) -> Result<PointParts, NoMemory>
     requires shape { HaveReturnShape (count_of points.now) returns.now }
     requires entered { AreEntered points.now returns.now.entered.items (count_of points.now) }
     requires transfers { length transfers.now ≡ count_of points.now }
@@ -97,7 +97,7 @@ fn own_points(
     let owners = OwnerTable::build(alloc, places)?;
     let list = list_points(alloc, points, &owners, returns, &rares.numbers, transfers)?;
     restores_are_points(&hints);
-    Ok(OwnedPoints {
+    Ok(PointParts {
         list,
         owners: owners.into_owners(),
         rares,
@@ -105,25 +105,22 @@ fn own_points(
     })
 }
 
-/// What stands beside the points.
+/// What of the graph stands beside the points.
 #[derive(Drop)]
-struct Surroundings {
+struct PlaceParts {
     sites: Vec<GraphSite>,
     texts: Vec<TextSection>,
     without_size: Vec<Place>,
 }
 
-/// What stands beside the points.
-fn list_surroundings(
-    alloc: Global,
-    places: &PointPlaces<'_, '_, '_>,
-) -> Result<Surroundings, NoMemory>
+/// What of the graph stands beside the points.
+fn place_parts(alloc: Global, places: &PointPlaces<'_, '_, '_>) -> Result<PlaceParts, NoMemory>
     ensures sites { IfOk result (λ beside. map site_of beside.sites.items ≡ sites_of places.now) }
     ensures texts { IfOk result (λ beside. map text_of beside.texts.items ≡ text_sections_of places.now.elf) }
     ensures without_size { IfOk result (λ beside. beside.without_size.items ≡ unsized_of places.now.elf) }
 {
     let object = places.linked().object();
-    Ok(Surroundings {
+    Ok(PlaceParts {
         sites: list_sites(alloc, places)?,
         texts: list_texts(alloc, object)?,
         without_size: list_without_size(alloc, object)?,
@@ -139,22 +136,22 @@ pub(crate) fn parts_of(
     ensures tells { IfOk result (Tells (program_of points.now lists.now)) }
     ensures shape { IfOk result HaveShape }
 {
-    let Ways {
+    let EdgeParts {
         returns,
         alike,
         transfers: list,
-    } = list_ways(alloc, points, lists)?;
-    let OwnedPoints {
+    } = edge_parts(alloc, points, lists)?;
+    let PointParts {
         list: made,
         owners,
         rares,
         restores,
-    } = own_points(alloc, points, &returns, &list.numbers)?;
-    let Surroundings {
+    } = point_parts(alloc, points, &returns, &list.numbers)?;
+    let PlaceParts {
         sites,
         texts,
         without_size,
-    } = list_surroundings(alloc, points.places())?;
+    } = place_parts(alloc, points.places())?;
     Ok(GraphParts {
         points: made.points,
         starts: returns.starts,

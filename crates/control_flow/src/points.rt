@@ -8,7 +8,6 @@ ghost use Rattle.return_search.specs.Shape.{HaveShape};
 ghost use Rattle.control_flow.specs.Listed.{AreEntered, count_of};
 ghost use Rattle.control_flow.specs.Points.{AreMade, IsKind, IsPlaced};
 
-use crate::Returns;
 use crate::kinds::KindTable;
 use crate::listed::count_points;
 use crate::low::point_is_low;
@@ -16,6 +15,7 @@ use object_points::OwnerTable;
 use ot_base::NoMemory;
 use point_edges::FlowPoints;
 use program_graph::{GraphPoint, PointKind};
+use return_search::Returns;
 use std::alloc::Global;
 
 /// What is told of a point by lists of all points.

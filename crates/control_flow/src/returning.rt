@@ -12,10 +12,10 @@ use crate::entering::list_entered;
 use crate::listed::list_dead_ends;
 use crate::order::object_is_in_order;
 use crate::outgoing::EdgeList;
-use crate::{Exit, Flow, Returns, find_returns};
 use object_law::flow_laws::program_is_one;
 use ot_base::{Lists, NoMemory};
 use point_edges::FlowPoints;
+use return_search::{Exit, Flow, Returns, find_returns};
 use std::alloc::Global;
 
 /// The law that the program of an object whose code is read has what is asked of programs.

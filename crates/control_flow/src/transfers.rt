@@ -12,7 +12,6 @@ ghost use Rattle.control_flow.specs.Listed.{CallsPoint, count_of};
 ghost use Rattle.control_flow.specs.Numbers.{AreNumbered, HaveNumbers, IsNumbered};
 ghost use Rattle.control_flow.specs.Transfers.{IsTransfer, IsTransferIfBack, IsTransferOf};
 
-use crate::Returns;
 use crate::numbers::number_of;
 use machine_defs::{Marks, Role};
 use object_points::calls_fentry;
@@ -20,6 +19,7 @@ use operation_defs::Insn;
 use ot_base::NoMemory;
 use point_edges::{Branch, FlowPoints, marks};
 use program_graph::Transfer;
+use return_search::Returns;
 
 /// That of most points: they neither call nor leave their function, and nothing is wrong with where they go.
 pub(crate) const USUAL: Transfer = Transfer {

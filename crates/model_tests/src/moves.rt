@@ -56,8 +56,8 @@ fn is_moved(row: &Move) -> bool {
 }
 
 fn expect_moves(rt: &impl Abort, moves: &[Move]) {
-    for row in moves {
-        assert!(rt; is_moved(row), "{:?}", row.1);
+    for (number, row) in moves.iter().enumerate() {
+        assert!(rt; is_moved(row), "row {number}");
     }
 }
 

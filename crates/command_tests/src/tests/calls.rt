@@ -28,6 +28,6 @@ fn demo_3_in_three_calls(rt: HostRuntime) -> Result<(), Fail> {
     assert!(rt; bytes.len() < 1000);
     let mut out = StdSink::new(&rt);
     let status = summary(alloc, "demo 3", bytes.as_slice(), &mut out);
-    assert!(rt; status == Status::Done, "{status:?}");
+    assert!(rt; status == Status::Done);
     Ok(())
 }
