@@ -1,12 +1,7 @@
-use Rattle.std.proofs.Common.{refl, sym, subst}
-use Rattle.flow_defs.specs.Coded.{coded_by}
-use Rattle.object_check.specs.Outcome.{AreWarnings, IsOutcome, OnAccepted}
-use Rattle.object_check.specs.Promises.{KeepsPromises}
-use Rattle.object_check.specs.Unwinding.{RowsUnwind}
+use Rattle.std.proofs.Common.{refl, subst, sym}
 use Rattle.objtool_cli.specs.Checked.{IsUncheckableStop}
-use Rattle.objtool_cli.specs.Command.{done, refused, stopped}
-use Rattle.objtool_cli.proofs.CheckLemmas.{done_end, sound, stopped_end, warned_end}
-use Rattle.objtool_cli.proofs.ParseLemmas.{check_uncheckable, parse_uncheckable, uncheckable_refusal}
+use Rattle.objtool_cli.specs.Command.{refused, stopped}
+use Rattle.objtool_cli.proofs.ParseLemmas.{parse_uncheckable, uncheckable_refusal}
 use Rattle.objtool_cli.proofs.check.check.Goals as goal
 
 pub returns-in-Err-clause-ends : goal.returns-in-Err-clause-ends
@@ -14,41 +9,3 @@ returns-in-Err-clause-ends g c =
     stopped c.parse_stop.result
     (refused c.args.bytes.now c.args.lists.now c.requires.read (uncheckable_refusal c.args.bytes.now c.args.lists.now c.args.asked.options c.parse_stop.result (subst (IsUncheckableStop c.args.asked.options.map c.args.bytes.now) (sym c.parse_stop.ensures) (parse_uncheckable c.args.asked.options.map c.args.bytes.now c.in-Err.fault c.in-Err.ensures.err))) refl)
     c.conclude.ensures.concluded
-
-pub returns-in-Ok-Broken-clause-ends : goal.returns-in-Ok-Broken-clause-ends
-returns-in-Ok-Broken-clause-ends g c =
-    warned_end _ _ _ _ c.args.bytes.now c.args.lists.now _ _ _ _ _ c.in-Ok.object c.in-Ok-Broken.warnings.items c.deref.result.now c.requires.read c.in-Ok.ensures.ok
-    (subst (IsOutcome (coded_by c.args.asked.options.map c.in-Ok.object) c.args.lists.now c.args.asked.options.rules) c.in-Ok-Broken.field-0-is c.in-Ok-Broken.ensures.ok) refl c.deref.ensures.value c.tell_warnings.ensures.told
-
-pub returns-in-Err-check_object-clause-ends : goal.returns-in-Err-check_object-clause-ends
-returns-in-Err-check_object-clause-ends g c =
-    stopped c.check_stop.result
-    (refused c.args.bytes.now c.args.lists.now c.requires.read (uncheckable_refusal c.args.bytes.now c.args.lists.now c.args.asked.options c.check_stop.result (check_uncheckable c.args.asked.options.map c.args.bytes.now c.in-Ok.object c.check_stop.result c.in-Ok.ensures.ok (c.check_stop.ensures c.args.asked.options.map c.in-Err-check_object.ensures.err))) refl)
-    c.conclude-in-Err-check_object.ensures.concluded
-
-pub returns-in-Ok-write_table-clause-ends : goal.returns-in-Ok-write_table-clause-ends
-returns-in-Ok-write_table-clause-ends g c =
-    done
-    (done_end _ _ _ _ c.args.bytes.now c.args.lists.now _ _ c.in-Ok.object c.in-Ok-Accepted.rows.items c.deref-2.result.now c.requires.read c.in-Ok.ensures.ok
-    (sound c.in-Ok.object c.args.lists.now c.args.asked.options c.in-Ok-Accepted.rows.items c.in-Ok-Accepted.field-0-1 (subst (IsOutcome (coded_by c.args.asked.options.map c.in-Ok.object) c.args.lists.now c.args.asked.options.rules) c.in-Ok-Accepted.field-0-is c.in-Ok-Accepted.ensures.ok))
-    (subst (λ outcome. OnAccepted outcome (RowsUnwind (coded_by c.args.asked.options.map c.in-Ok.object) c.args.lists.now)) c.in-Ok-Accepted.field-0-is c.in-Ok-Accepted.ensures.unwinds)
-    (subst (λ outcome. OnAccepted outcome (λ rows. KeepsPromises (coded_by c.args.asked.options.map c.in-Ok.object) c.args.lists.now c.args.asked.options.rules)) c.in-Ok-Accepted.field-0-is c.in-Ok-Accepted.ensures.promises) c.deref-2.ensures.value c.in-Ok-write_table.ensures.written)
-    refl
-
-pub returns-clause-ends : goal.returns-clause-ends
-returns-clause-ends g c =
-    stopped c.in-Err-write_table.stop
-    (stopped_end _ _ _ _ c.args.bytes.now c.args.lists.now _ _ c.in-Ok.object c.in-Ok-Accepted.rows.items c.deref-2.result.now c.in-Err-write_table.stop c.requires.read c.in-Ok.ensures.ok
-    (sound c.in-Ok.object c.args.lists.now c.args.asked.options c.in-Ok-Accepted.rows.items c.in-Ok-Accepted.field-0-1 (subst (IsOutcome (coded_by c.args.asked.options.map c.in-Ok.object) c.args.lists.now c.args.asked.options.rules) c.in-Ok-Accepted.field-0-is c.in-Ok-Accepted.ensures.ok)) c.deref-2.ensures.value c.in-Err-write_table.ensures.stopped)
-    c.conclude-in-Err-write_table.ensures.concluded
-
-pub check_stop-requires : goal.check_stop-requires
-check_stop-requires g c = (c.args.asked.options.map, c.in-Err-check_object.ensures.err)
-
-pub tell_warnings-requires-clause-checkable : goal.tell_warnings-requires-clause-checkable
-tell_warnings-requires-clause-checkable g c = (subst (IsOutcome (coded_by c.args.asked.options.map c.in-Ok.object) c.args.lists.now c.args.asked.options.rules) c.in-Ok-Broken.field-0-is c.in-Ok-Broken.ensures.ok).0
-
-pub tell_warnings-requires-clause-warned : goal.tell_warnings-requires-clause-warned
-tell_warnings-requires-clause-warned g c =
-    subst (AreWarnings _ _ c.args.asked.options.rules) (sym c.deref.ensures.value)
-    (subst (IsOutcome (coded_by c.args.asked.options.map c.in-Ok.object) c.args.lists.now c.args.asked.options.rules) c.in-Ok-Broken.field-0-is c.in-Ok-Broken.ensures.ok).1
