@@ -54,6 +54,27 @@ pub(crate) fn graph_of<'a>(
     }
 }
 
+/// The warnings of the entry rules that the options ask for, of an object whose code is read, under lists of function names; or why a
+/// command stops that can't look for them.
+fn warnings_of_linked<'a>(
+    alloc: Global,
+    linked: &Linked<'_, '_>,
+    lists: &Lists,
+    options: EntryOptions,
+) -> Result<Vec<Warning>, CommandStop<'a>>
+    requires { IsLinked linked.now }
+    ensures are { IfOk result (λ warnings. AreEntryWarnings linked.now lists.now options warnings.items) }
+    ensures keeps { IfOk result (λ warnings. warnings.items ≡ [] → KeepsEntryRules linked.now lists.now options) }
+    ensures right { OnOk result (IsInOrder linked.now) }
+    ensures stopped { (bytes : List ℕ) → IsObject bytes linked.now.elf → IfErr result (IsUncheckable linked.now.map bytes) }
+{
+    let graph = graph_of(alloc, linked, lists)?;
+    match check(alloc, linked, &graph, options) {
+        Ok(warnings) => Ok(warnings),
+        Err(NoMemory) => Err(CommandStop::NoMemory),
+    }
+}
+
 /// The warnings of the entry rules that the options ask for, of an object whose code is read by an opcode map, under
 /// lists of function names; or why a command stops that can't look for them.
 pub(crate) fn warnings_of<'a>(
@@ -70,9 +91,5 @@ pub(crate) fn warnings_of<'a>(
     ensures stopped { (bytes : List ℕ) → IsObject bytes object.now → IfErr result (IsUncheckable map bytes) }
 {
     let linked = link(alloc, map, object)?;
-    let graph = graph_of(alloc, &linked, lists)?;
-    match check(alloc, &linked, &graph, options) {
-        Ok(warnings) => Ok(warnings),
-        Err(NoMemory) => Err(CommandStop::NoMemory),
-    }
+    warnings_of_linked(alloc, &linked, lists, options)
 }

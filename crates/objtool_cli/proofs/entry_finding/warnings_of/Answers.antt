@@ -1,21 +1,25 @@
-use Rattle.std.proofs.Common.{sym, subst}
-use Rattle.std.proofs.lemmas.Result.{err_from_is_err_and}
+use Rattle.std.proofs.Common.{◌≡◌, [], subst, sym}
+use Rattle.std.specs.Prelude.{IfErr, IfOk, OnOk}
 use Rattle.elf_objects.specs.Object.{IsObject}
 use Rattle.flow_defs.specs.Coded.{Coded}
-use Rattle.objtool_cli.specs.Entry.{IsUncheckable, no_memory}
+use Rattle.command_base.specs.Code.{IsInOrder}
+use Rattle.objtool_cli.specs.Entry.{AreEntryWarnings, IsUncheckable, KeepsEntryRules}
 use Rattle.objtool_cli.proofs.entry_finding.warnings_of.Goals as goal
 
--- the graph is that of the program under these lists
-pub check-requires : goal.check-requires
-check-requires c = record { lists = c.args.lists.now; tells = c.in_ok-graph.ensures.tells }
+pub returns-clause-are : goal.returns-clause-are
+returns-clause-are c =
+    subst (λ (x : Coded). IfOk c.warnings_of_linked.result (λ warnings. AreEntryWarnings x c.args.lists.now c.args.options warnings.items)) c.in_ok-linked.ensures.ok c.warnings_of_linked.ensures.are
 
-pub returns-in_err-graph-clause-stopped : goal.returns-in_err-graph-clause-stopped
-returns-in_err-graph-clause-stopped c bytes is =
-    let same = c.in_ok-linked.ensures.ok in
-    let met = c.in_err-graph.ensures.stopped bytes (subst (λ (x : Coded). IsObject bytes x.elf) (sym same) is) in
-    let here = subst (λ (x : Coded). IsUncheckable x.map bytes c.in_err-graph.field-0.0) same met in
-    let p = err_from_is_err_and c.from_residual-in_err-graph.result c.from_residual-in_err-graph.ensures.1 in
-    rw (p.1, p.2) here
+pub returns-clause-keeps : goal.returns-clause-keeps
+returns-clause-keeps c =
+    subst (λ (x : Coded). IfOk c.warnings_of_linked.result (λ warnings. warnings.items ≡ [] → KeepsEntryRules x c.args.lists.now c.args.options)) c.in_ok-linked.ensures.ok c.warnings_of_linked.ensures.keeps
+
+pub returns-clause-right : goal.returns-clause-right
+returns-clause-right c =
+    subst (λ (x : Coded). OnOk c.warnings_of_linked.result (IsInOrder x)) c.in_ok-linked.ensures.ok c.warnings_of_linked.ensures.right
 
 pub returns-clause-stopped : goal.returns-clause-stopped
-returns-clause-stopped c bytes is = no_memory
+returns-clause-stopped c bytes is =
+    let same = c.in_ok-linked.ensures.ok in
+    subst (λ (x : Coded). IfErr c.warnings_of_linked.result (IsUncheckable x.map bytes)) same
+    (c.warnings_of_linked.ensures.stopped bytes (subst (λ (x : Coded). IsObject bytes x.elf) (sym same) is))

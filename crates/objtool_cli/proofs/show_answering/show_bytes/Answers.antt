@@ -1,40 +1,14 @@
-use Rattle.std.proofs.Common.{◌≡◌, refl, sym, subst}
-use Rattle.flow_defs.specs.Coded.{coded_by}
-use Rattle.flow_defs.specs.Program.{program_of}
+use Rattle.std.proofs.Common.{subst, sym}
 use Rattle.objtool_cli.specs.Entry.{IsUncheckable, refused}
-use Rattle.objtool_cli.specs.Show.{no_function, shown, stopped, unchecked}
-use Rattle.objtool_cli.proofs.EntryEnds.{may_check}
+use Rattle.objtool_cli.specs.Show.{stopped, unchecked}
 use Rattle.objtool_cli.proofs.EntryUncheckable.{no_object}
 use Rattle.objtool_cli.proofs.show_answering.show_bytes.Goals as goal
+
+pub returns-in-Ok-clause-ends : goal.returns-in-Ok-clause-ends
+returns-in-Ok-clause-ends g c before after read = c.show_object.ensures.ends before after read
 
 pub returns-in-Err-clause-ends : goal.returns-in-Err-clause-ends
 returns-in-Err-clause-ends g c before after read =
     stopped c.parse_stop.result
     (unchecked (refused c.args.bytes.now c.args.lists.now read (subst (IsUncheckable c.args.asked.map c.args.bytes.now) (sym c.parse_stop.ensures) (no_object c.args.asked.map c.args.bytes.now c.in-Err.fault c.in-Err.ensures.err))))
     c.conclude.ensures.concluded
-
-pub returns-in-Err-code_of-clause-ends : goal.returns-in-Err-code_of-clause-ends
-returns-in-Err-code_of-clause-ends g c before after read =
-    stopped c.in-Err-code_of.stop (unchecked (refused c.args.bytes.now c.args.lists.now read (c.in-Err-code_of.ensures.stopped c.args.bytes.now c.in-Ok.ensures.ok))) c.conclude-in-Err-code_of.ensures.concluded
-
-pub returns-in-Some-clause-ends : goal.returns-in-Some-clause-ends
-returns-in-Some-clause-ends g c before after read =
-    let o = c.in-Ok.object in
-    let code = c.in-Ok-code_of.ensures.shown in
-    let lacks = c.in-Some.ensures (program_of (coded_by c.args.asked.map o) c.args.lists.now) code.tells in
-    stopped _
-    (no_function o c.args.lists.now _ (may_check _ _ _ _ c.args.bytes.now o c.args.lists.now read c.in-Ok.ensures.ok c.in-Ok-code_of.ensures.right) lacks.0 lacks.1 refl)
-    c.conclude-in-Some.ensures.concluded
-
-pub returns-clause-ends : goal.returns-clause-ends
-returns-clause-ends g c before after read =
-    let o = c.in-Ok.object in
-    let code = c.in-Ok-code_of.ensures.shown in
-    let p = program_of (coded_by c.args.asked.map o) c.args.lists.now in
-    shown o c.args.lists.now _
-    (record {
-      may = may_check _ _ _ _ c.args.bytes.now o c.args.lists.now read c.in-Ok.ensures.ok c.in-Ok-code_of.ensures.right;
-      kept = code.states;
-      code = c.in-None.ensures p code.tells;
-    })
-    (c.print_listing.ensures.printed p code.tells)
