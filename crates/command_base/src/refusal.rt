@@ -10,7 +10,7 @@ use site_lists::SitesFault;
 use std::fmt;
 
 /// Why an input is refused.
-#[derive(Clone, Copy, PartialEq, Eq)]
+#[derive(Clone, Copy)]
 pub enum Refusal<'a> {
     /// The object file is no well-formed object.
     Malformed(ElfFault),

@@ -9,7 +9,7 @@ use std::fmt;
 
 /// Why a command stopped before it was done. Its `Display` is the line that says so, with its line end;
 /// of want of memory nothing is said.
-#[derive(Clone, Copy, PartialEq, Eq)]
+#[derive(Clone, Copy)]
 pub enum CommandStop<'a> {
     /// The words ask for nothing that is done.
     Usage(Usage),
