@@ -3,7 +3,7 @@
 use super::objects::{code_in_f, code_with_call};
 use super::running::{run_words, words_of};
 use objtool_cli::{Status, summary};
-use ot_files::{MemSink, SureFiles, SureSink};
+use ot_files::{MemFiles, MemSink};
 use std::alloc::Global;
 
 /// Words, and the line that they print.
@@ -20,7 +20,7 @@ fn output_of(alloc: Global, cut: usize) -> Option<MemSink> {
 /// Whether an output that fails at a byte has exactly those before it, or all where none fails.
 fn is_cut(alloc: Global, cut: usize) -> Option<bool> {
     let words = words_of(alloc, LINE).ok()?;
-    let mut files = SureFiles::new(alloc, Vec::new(alloc));
+    let mut files = MemFiles::new(alloc, Vec::new(alloc), Vec::new(alloc));
     let mut out = output_of(alloc, cut)?;
     let status = run_words(alloc, &words, &mut files, &mut out);
     let whole = if cut < TEXT.len() {
@@ -39,7 +39,7 @@ fn a_line_is_cut_where_the_output_fails(rt: HostRuntime) {
 }
 
 /// How bytes with the title `x` are summed up. What that comes to is told by no contract.
-fn summed(alloc: Global, bytes: &[u8], out: &mut SureSink) -> Option<Status> {
+fn summed(alloc: Global, bytes: &[u8], out: &mut MemSink) -> Option<Status> {
     if bytes.len() < 1000 {
         Some(summary(alloc, "x", bytes, out))
     } else {
@@ -49,7 +49,7 @@ fn summed(alloc: Global, bytes: &[u8], out: &mut SureSink) -> Option<Status> {
 
 /// Whether bytes end with this status and print this text.
 fn is_summed(alloc: Global, bytes: &[u8], status: Status, text: &str) -> Option<bool> {
-    let mut out = SureSink::new(alloc, 100);
+    let mut out = MemSink::new(alloc, 100, Vec::new(alloc));
     let found = summed(alloc, bytes, &mut out)?;
     Some(found == status && out.written() == text.as_bytes())
 }
