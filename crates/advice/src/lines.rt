@@ -125,7 +125,8 @@ fn word_at(words: &[String], at: usize) -> Option<&str>
     }
 }
 
-/// The line on words at fault; none where no word is.
+/// The line that helps with words at fault: what is wrong with which word, and the known word that is near it, where one is.
+/// There is none where the words mean a command. An error is want of memory.
 pub fn usage_line(alloc: Global, words: &[String]) -> Result<Option<String>, AllocError>
     ensures { IfOk result (λ said. IsUsageLine (map string_bytes words.now) (option_map string_bytes said)) }
 {
@@ -140,7 +141,8 @@ pub fn usage_line(alloc: Global, words: &[String]) -> Result<Option<String>, All
     }
 }
 
-/// The line on a refusal that was told by this line; none where no topic explains it.
+/// The line that helps with a refusal, found by the line that told it: which topic explains it. There is none where no topic does.
+/// An error is want of memory.
 pub fn refusal_line(alloc: Global, line: &[u8]) -> Result<Option<String>, AllocError>
     ensures { IfOk result (λ said. option_map string_bytes said ≡ option_map refusal_advice (topic_of line.now)) }
 {
