@@ -23,7 +23,7 @@ use Rattle.symbols_relocs.specs.Parts.{owner_at}
 use Rattle.alternatives.specs.declared.point.Point.{Point}
 use Rattle.alternatives.specs.declared.texts.SectionText.{SectionText}
 use Rattle.special_sections.specs.declared.entries.AltEntry.{AltEntry}
-use Rattle.jump_tables.specs.Tables.{entries_by, entries_of, same_owner}
+use Rattle.flow_defs.specs.Tables.{entries_by, entries_of, same_owner}
 use Rattle.flow_defs.specs.Coded.{Coded}
 use Rattle.flow_defs.specs.declared.destination.Way.TheVariants.{Along}
 use Rattle.flow_defs.specs.declared.destination.Destination.{Destination}

@@ -16,7 +16,7 @@ use Rattle.special_sections.specs.Special.{special_of}
 use Rattle.alternatives.specs.declared.point.Point.{Point}
 use Rattle.alternatives.specs.Texts.{behind, is_boundary}
 use Rattle.alternatives.specs.Points.{end_of_site, entry_of, first_points, insn_of_point, is_padding_point, next_point}
-use Rattle.jump_tables.specs.Tables.{same_owner}
+use Rattle.flow_defs.specs.Tables.{same_owner}
 use Rattle.flow_defs.specs.Code.{texts_of, alternatives_of, numbers_of, point_at, points_of_object, is_plain}
 use Rattle.flow_defs.specs.Owners.{owner_of_point}
 

@@ -15,7 +15,7 @@ use Rattle.special_sections.specs.declared.entries.BranchEntry.{BranchEntry}
 use Rattle.special_sections.specs.declared.entries.FixEntry.{FixEntry}
 use Rattle.special_sections.specs.Special.{special_of}
 use Rattle.alternatives.specs.declared.point.Point.{Point}
-use Rattle.jump_tables.specs.Tables.{same_owner}
+use Rattle.flow_defs.specs.Tables.{same_owner}
 use Rattle.flow_defs.specs.declared.destination.Destination.{Destination}
 use Rattle.flow_defs.specs.declared.destination.Destination.TheVariants.{ToPlace, ToOwnPoint}
 use Rattle.flow_defs.specs.declared.destination.Way.{Way}

@@ -6,7 +6,7 @@ use Rattle.state_defs.specs.declared.state.HintState.{HintState}
 use Rattle.state_defs.specs.declared.state.HintState.TheVariants.{Set, Save, Restore}
 use Rattle.alternatives.specs.declared.point.Point.{Point}
 use Rattle.alternatives.specs.Points.{address_of_point}
-use Rattle.jump_tables.specs.Tables.{same_owner}
+use Rattle.flow_defs.specs.Tables.{same_owner}
 use Rattle.flow_defs.specs.Code.{alternatives_of, points_of_object, number_of}
 use Rattle.flow_defs.specs.Owners.{owner_of_point}
 pub use Rattle.flow_defs.specs.Arrival.{hint_of}

@@ -3,6 +3,9 @@ pub mod Code
 pub mod Owners
 pub mod Sites
 pub mod Arrival
+pub mod TableFields
+pub mod TableRegisters
+pub mod Tables
 pub mod Targets
 pub mod Ways
 pub mod Roles

@@ -12,7 +12,7 @@ use Rattle.machine_defs.specs.declared.flow.EdgeKind.TheVariants.{Taken, Fixup}
 use Rattle.machine_defs.specs.declared.flow.Marks.{Marks}
 use Rattle.symbols_relocs.specs.NamedPlaces.{is_relocated}
 use Rattle.alternatives.specs.declared.point.Point.{Point}
-use Rattle.jump_tables.specs.Tables.{same_owner}
+use Rattle.flow_defs.specs.Tables.{same_owner}
 use Rattle.flow_defs.specs.declared.destination.Destination.{Destination}
 use Rattle.flow_defs.specs.declared.destination.Destination.TheVariants.{ToPlace, ToOwnPoint, ToOutside, ToIndirectThunk, ToReturnThunk, ToNowhere}
 use Rattle.flow_defs.specs.Code.{texts_of}

@@ -10,7 +10,7 @@ use Rattle.symbols_relocs.specs.Parts.{owner_at, owner_of, parent_of}
 use Rattle.special_sections.specs.Special.{special_of}
 use Rattle.alternatives.specs.declared.point.Point.{Point}
 use Rattle.alternatives.specs.Points.{address_of_point}
-use Rattle.jump_tables.specs.Tables.{same_owner}
+use Rattle.flow_defs.specs.Tables.{same_owner}
 use Rattle.flow_defs.specs.Code.{alternatives_of}
 
 -- the function of a point, and its owner: those of the place where it runs

@@ -9,7 +9,7 @@ use Rattle.machine_defs.specs.declared.flow.EdgeKind.{EdgeKind}
 use Rattle.machine_defs.specs.declared.flow.EdgeKind.TheVariants.{Sibling, Taken}
 use Rattle.symbols_relocs.specs.Parts.{owner_at}
 use Rattle.alternatives.specs.declared.point.Point.{Point}
-use Rattle.jump_tables.specs.Tables.{same_owner}
+use Rattle.flow_defs.specs.Tables.{same_owner}
 use Rattle.flow_defs.specs.declared.destination.Crossing.{Crossing}
 use Rattle.flow_defs.specs.declared.destination.Crossing.TheVariants.{MayCross, MayNotCross}
 use Rattle.flow_defs.specs.declared.destination.Way.{Way}

@@ -11,7 +11,7 @@ use Rattle.symbols_relocs.specs.Parts.{owner_at}
 use Rattle.special_sections.specs.declared.entries.AltEntry.{AltEntry}
 use Rattle.alternatives.specs.declared.texts.SectionText.{SectionText}
 use Rattle.jump_tables.specs.declared.table.Table.{Table}
-use Rattle.jump_tables.specs.Tables.{entries_for, table_entry_at, same_owner, up_to_none}
+use Rattle.flow_defs.specs.Tables.{entries_for, table_entry_at, same_owner, up_to_none}
 use Rattle.jump_tables.specs.Kept.{entry_for, IsTableFrom}
 
 abbrev of_owner : Elf → Option ℕ → Place → Bool

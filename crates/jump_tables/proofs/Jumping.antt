@@ -23,8 +23,8 @@ use Rattle.alternatives.specs.declared.texts.SectionText.{SectionText}
 use Rattle.alternatives.specs.Texts.{AscendBySection}
 use Rattle.jump_tables.specs.declared.jump.Jump.{Jump}
 use Rattle.jump_tables.specs.Kept.{start_at}
-use Rattle.jump_tables.specs.Registers.{jumps_to_register, register_table, table_before_jump}
-use Rattle.jump_tables.specs.Tables.{field_table, jump_table, names_table, start_by, table_by, tables_among, tables_of}
+use Rattle.flow_defs.specs.TableRegisters.{jumps_to_register, register_table, table_before_jump}
+use Rattle.flow_defs.specs.Tables.{field_table, jump_table, names_table, start_by, table_by, tables_among, tables_of}
 use Rattle.jump_tables.specs.Jumps.{jump_among, jump_by, jumps_among, jumps_in, jumps_of, IsAscending}
 use Rattle.jump_tables.proofs.Order.{same_is}
 

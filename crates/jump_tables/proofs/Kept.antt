@@ -7,8 +7,8 @@ use Rattle.elf_objects.specs.Elf.{Elf}
 use Rattle.special_sections.specs.declared.entries.AltEntry.{AltEntry}
 use Rattle.alternatives.specs.declared.texts.SectionText.{SectionText}
 use Rattle.jump_tables.specs.Kept.{AreStarts}
-use Rattle.jump_tables.specs.Fields.{boundary_named, checked_behind}
-use Rattle.jump_tables.specs.Tables.{table_entry_at, is_table}
+use Rattle.flow_defs.specs.TableFields.{boundary_named, checked_behind}
+use Rattle.flow_defs.specs.Tables.{table_entry_at, is_table}
 
 module _ (o : Elf) (texts : List SectionText) (entries : List AltEntry) (starts : List Place) (all : AreStarts o texts entries starts) (table : Place) (i : ℕ) (field : Place) (here : checked_behind table (8 * i) ≡ Some field) where
   -- an entry by whether the table is cut there

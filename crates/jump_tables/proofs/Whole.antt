@@ -11,7 +11,7 @@ use Rattle.alternatives.specs.declared.texts.SectionText.{SectionText}
 use Rattle.alternatives.specs.Texts.{AscendBySection}
 use Rattle.jump_tables.specs.declared.jump.Jump.{Jump}
 use Rattle.jump_tables.specs.declared.table.Table.{Table}
-use Rattle.jump_tables.specs.Tables.{entries_by, entries_for, jump_table, table_of, tables_of}
+use Rattle.flow_defs.specs.Tables.{entries_by, entries_for, jump_table, table_of, tables_of}
 use Rattle.jump_tables.specs.Jumps.{jump_among, jumps_of, HaveSameJumps, IsAscending}
 use Rattle.jump_tables.specs.Kept.{of_start, of_table, start_at, table_at, table_in, AreStarts, AreTables, IsTableFrom}
 use Rattle.jump_tables.proofs.Jumping.{start_is, tables_are}

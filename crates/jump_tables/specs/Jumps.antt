@@ -10,7 +10,7 @@ use Rattle.elf_objects.specs.Elf.{Elf}
 use Rattle.special_sections.specs.declared.entries.AltEntry.{AltEntry}
 use Rattle.alternatives.specs.declared.texts.SectionText.{SectionText}
 use Rattle.jump_tables.specs.declared.jump.Jump.{Jump}
-use Rattle.jump_tables.specs.Tables.{names_table, table_by}
+use Rattle.flow_defs.specs.Tables.{names_table, table_by}
 
 -- the jump by a table that an instruction of a body is
 abbrev pub jump_by : Elf → List SectionText → List AltEntry → Body → Place → Insn → Option Jump

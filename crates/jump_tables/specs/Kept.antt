@@ -11,7 +11,7 @@ use Rattle.alternatives.specs.declared.texts.SectionText.{SectionText}
 use Rattle.jump_tables.specs.declared.jump.Jump.{Jump}
 use Rattle.jump_tables.specs.declared.table.Table.{Table}
 use Rattle.jump_tables.specs.Jumps.{jump_among, AreByJump}
-use Rattle.jump_tables.specs.Tables.{entries_for, is_table, same_owner}
+use Rattle.flow_defs.specs.Tables.{entries_for, is_table, same_owner}
 
 -- no one is before one in front of it
 abbrev pub AreByPlace : List Place → Type 0

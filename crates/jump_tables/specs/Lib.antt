@@ -1,5 +1,2 @@
-pub mod Fields
-pub mod Registers
-pub mod Tables
 pub mod Jumps
 pub mod Kept

@@ -1,7 +1,7 @@
 //! The bytes of sections.
 
 ghost use Rattle.std.specs.Prelude.{◌≡◌, ◌<◌, ◌^◌, length};
-ghost use Rattle.jump_tables.specs.Registers.{bytes_from as bytes_from_place};
+ghost use Rattle.flow_defs.specs.TableRegisters.{bytes_from as bytes_from_place};
 
 use elf_objects::Object;
 use ot_base::Place;

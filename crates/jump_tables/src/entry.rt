@@ -4,7 +4,7 @@ ghost use Rattle.std.specs.Prelude.{◌≡◌, ◌&&◌, nat_lt};
 ghost use Rattle.std.specs.List.{list_any};
 ghost use Rattle.ot_base.specs.Places.{same_place};
 ghost use Rattle.jump_tables.specs.Kept.{AreByPlace, AreStarts};
-ghost use Rattle.jump_tables.specs.Tables.{table_entry_at as entry_of_table};
+ghost use Rattle.flow_defs.specs.Tables.{table_entry_at as entry_of_table};
 
 use crate::code::Code;
 use crate::field::{boundary_named, checked_behind};

@@ -2,8 +2,8 @@
 
 ghost use Rattle.std.specs.Prelude.{◌≡◌, ◌==◌, find};
 ghost use Rattle.alternatives.specs.Texts.{AscendBySection};
-ghost use Rattle.jump_tables.specs.Fields.{boundary_named as boundary_named_by, checked_behind as place_behind, may_hold_tables as may_hold_the_tables, named_by as named_by_reloc, table_named as table_of_field};
-ghost use Rattle.jump_tables.specs.Tables.{field_table as field_table_of};
+ghost use Rattle.flow_defs.specs.TableFields.{boundary_named as boundary_named_by, checked_behind as place_behind, may_hold_tables as may_hold_the_tables, named_by as named_by_reloc, table_named as table_of_field};
+ghost use Rattle.flow_defs.specs.Tables.{field_table as field_table_of};
 
 use crate::texts::is_boundary;
 use alternatives::SectionText;

@@ -5,7 +5,7 @@ ghost use Rattle.ot_base.specs.Places.{is_before as is_lower};
 ghost use Rattle.x86_text.specs.Code.{code_of};
 ghost use Rattle.alternatives.specs.declared.texts.SectionText.{SectionText};
 ghost use Rattle.jump_tables.specs.declared.jump.Jump.{Jump};
-ghost use Rattle.jump_tables.specs.Tables.{names_table as names_a_table, table_by as table_of_insn};
+ghost use Rattle.flow_defs.specs.Tables.{names_table as names_a_table, table_by as table_of_insn};
 ghost use Rattle.jump_tables.specs.Kept.{start_at as start_of_jump};
 ghost use Rattle.jump_tables.specs.Jumps.{jump_by, jump_among, jumps_among, jumps_of, AreByJump, HaveSameJumps, IsAscending};
 

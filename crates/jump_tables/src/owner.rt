@@ -2,7 +2,7 @@
 
 ghost use Rattle.std.specs.Prelude.{◌≡◌};
 ghost use Rattle.symbols_relocs.specs.Parts.{owner_at as owner_of_place};
-ghost use Rattle.jump_tables.specs.Tables.{same_owner};
+ghost use Rattle.flow_defs.specs.Tables.{same_owner};
 
 use ot_base::Place;
 use symbols_relocs::Index;

@@ -1,7 +1,7 @@
 //! Jumps to where a register points, and the tables whose addresses are taken right before them.
 
 ghost use Rattle.std.specs.Prelude.{◌≡◌, ◌+◌, ◌<◌, ◌^◌, ◌==◌, length, position, slice_index, IfSome};
-ghost use Rattle.jump_tables.specs.Registers.{ends_search as ends_the_search, is_on_register as is_a_register_jump, is_searched as is_searched_insn, is_thunk as is_a_thunk, jumps_to_register as jumps_to_a_register, register_table as register_table_of, table_before as table_before_offset, table_before_jump as table_before_place};
+ghost use Rattle.flow_defs.specs.TableRegisters.{ends_search as ends_the_search, is_on_register as is_a_register_jump, is_searched as is_searched_insn, is_thunk as is_a_thunk, jumps_to_register as jumps_to_a_register, register_table as register_table_of, table_before as table_before_offset, table_before_jump as table_before_place};
 
 use crate::bytes::bytes_from;
 use crate::code::Code;

@@ -2,7 +2,7 @@
 
 ghost use Rattle.std.specs.Prelude.{◌≡◌, length, IfOk};
 ghost use Rattle.elf_objects.specs.Contents.{relocs_at};
-ghost use Rattle.jump_tables.specs.Tables.{entries_for as entries_of_table_for, table_entry_at as entry_of_table};
+ghost use Rattle.flow_defs.specs.Tables.{entries_for as entries_of_table_for, table_entry_at as entry_of_table};
 ghost use Rattle.jump_tables.specs.Kept.{entry_for, kept_for, AreByPlace, AreStarts, AreTables, IsTableFrom};
 
 use crate::code::Code;

@@ -4,7 +4,7 @@ ghost use Rattle.std.specs.Prelude.{◌≡◌, ℕ, Option, IfOk};
 ghost use Rattle.alternatives.specs.declared.point.Point.{Point};
 ghost use Rattle.alternatives.specs.Texts.{AscendBySection};
 ghost use Rattle.jump_tables.specs.Kept.{start_in, table_in};
-ghost use Rattle.jump_tables.specs.Tables.{jump_table, table_of};
+ghost use Rattle.flow_defs.specs.Tables.{jump_table, table_of};
 
 use crate::code::Code;
 use crate::jump::{Jump, find_jump, list_jumps, sort_jumps, start_at};

@@ -4,7 +4,7 @@ ghost use Rattle.std.specs.Prelude.{◌≡◌, ◌+◌, ◌+ℤ◌, ◌<◌, ◌
 ghost use Rattle.std.specs.List.{filter_map};
 ghost use Rattle.symbols_relocs.specs.NamedPlaces.{offset_of};
 ghost use Rattle.alternatives.specs.Texts.{AscendBySection};
-ghost use Rattle.jump_tables.specs.Registers.{address_taken as address_taken_by, begins_table as begins_a_table, is_of_owner as is_of_the_owner, place_moved as place_moved_by, table_taken as table_taken_by, tables_taken};
+ghost use Rattle.flow_defs.specs.TableRegisters.{address_taken as address_taken_by, begins_table as begins_a_table, is_of_owner as is_of_the_owner, place_moved as place_moved_by, table_taken as table_taken_by, tables_taken};
 
 use crate::code::Code;
 use crate::field::{boundary_named, may_hold_tables};

@@ -14,7 +14,7 @@ use Rattle.machine_defs.specs.declared.flow.EdgeKind.TheVariants.{Next, Taken, S
 use Rattle.machine_defs.specs.Program.{IsPoint}
 use Rattle.symbols_relocs.specs.Parts.{owner_at}
 use Rattle.alternatives.specs.declared.point.Point.{Point}
-use Rattle.jump_tables.specs.Tables.{entries_by, entries_of, jump_table, same_owner}
+use Rattle.flow_defs.specs.Tables.{entries_by, entries_of, jump_table, same_owner}
 use Rattle.unwinding_law.proofs.Lists.{cases, nowhere}
 use Rattle.flow_defs.specs.declared.destination.Crossing.{Crossing}
 use Rattle.flow_defs.specs.declared.destination.Crossing.TheVariants.{MayCross}

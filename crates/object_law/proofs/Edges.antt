@@ -11,7 +11,7 @@ use Rattle.machine_defs.specs.declared.flow.EdgeKind.{EdgeKind}
 use Rattle.machine_defs.specs.declared.flow.EdgeKind.TheVariants.{Next, Taken, Fixup, Table, Sibling}
 use Rattle.alternatives.specs.declared.point.Point.{Point}
 use Rattle.alternatives.specs.Points.{first_points}
-use Rattle.jump_tables.specs.Tables.{same_owner}
+use Rattle.flow_defs.specs.Tables.{same_owner}
 use Rattle.unwinding_law.proofs.Lists.{from_flat_map, nowhere}
 use Rattle.flow_defs.specs.declared.destination.Crossing.{Crossing}
 use Rattle.flow_defs.specs.declared.destination.Destination.{Destination}

@@ -23,7 +23,7 @@ use Rattle.special_sections.specs.declared.entries.FixEntry.{FixEntry}
 use Rattle.special_sections.specs.Special.{special_faults, special_of}
 use Rattle.alternatives.specs.declared.point.Point.{Point}
 use Rattle.alternatives.specs.Texts.{behind, is_boundary}
-use Rattle.jump_tables.specs.Tables.{checked_behind as table_behind, boundary_named, entries_by, entries_of, table_entry_at, is_table, jump_table, reloc_of_kind, same_owner, up_to_none}
+use Rattle.flow_defs.specs.Tables.{checked_behind as table_behind, boundary_named, entries_by, entries_of, table_entry_at, is_table, jump_table, reloc_of_kind, same_owner, up_to_none}
 use Rattle.unwinding_law.proofs.Lists.{cases, from_filter, from_flat_map, here, nowhere, there}
 use Rattle.table_law.proofs.Lists.{some_is}
 use Rattle.flow_defs.specs.declared.destination.Destination.{Destination}

@@ -16,7 +16,7 @@ use Rattle.machine_defs.specs.Kept.{Kept}
 use Rattle.special_sections.specs.Special.{special_of}
 use Rattle.alternatives.specs.declared.point.Point.{Point}
 use Rattle.alternatives.specs.Originals.{no_entry}
-use Rattle.jump_tables.specs.Tables.{same_owner}
+use Rattle.flow_defs.specs.Tables.{same_owner}
 use Rattle.special_sections.specs.HintStates.{hint_at, hint_state}
 use Rattle.unwinding_law.proofs.Lists.{find_one, from_filter}
 use Rattle.table_law.proofs.Equal.{same_place_is}

@@ -17,7 +17,7 @@ use Rattle.alternatives.specs.declared.point.Point.{Point}
 use Rattle.alternatives.specs.Originals.{counted, entry_at}
 use Rattle.alternatives.specs.Points.{address_of_point, entries_from, first_of, is_point}
 use Rattle.alternatives.specs.Texts.{behind}
-use Rattle.jump_tables.specs.Tables.{same_owner}
+use Rattle.flow_defs.specs.Tables.{same_owner}
 use Rattle.unwinding_law.proofs.Lists.{cases, from_filter, here, nowhere, there}
 use Rattle.table_law.proofs.Equal.{same_place_is}
 use Rattle.flow_defs.specs.Code.{alternatives_of, point_at, texts_of}

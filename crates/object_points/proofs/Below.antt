@@ -7,7 +7,7 @@ use Rattle.std.proofs.lemmas.Bool.{cases_Bool, cases_lt, false≢true}
 use Rattle.std.proofs.lemmas.Bool.Decides.{nat_tests}
 use Rattle.std.proofs.lemmas.List.{get_or_default}
 use Rattle.ot_base.specs.declared.place.Place.{Place}
-use Rattle.jump_tables.specs.Tables.{same_owner}
+use Rattle.flow_defs.specs.Tables.{same_owner}
 use Rattle.object_points.specs.declared.saves.SavePoint.{SavePoint}
 use Rattle.object_points.specs.SaveOrder.{home_cmp, is_below, is_nearer_save, save_cmp, AreInOrder, IsNearestAt}
 use Rattle.object_points.proofs.HintOrder.{home_not}

@@ -2,7 +2,7 @@
 
 ghost use Rattle.std.specs.Prelude.{◌≡◌, ◌<◌, ◌&&◌, Some, if◌then◌else◌, length, All, IfOk};
 ghost use Rattle.alternatives.specs.declared.point.Point.{Point};
-ghost use Rattle.jump_tables.specs.Tables.{same_owner};
+ghost use Rattle.flow_defs.specs.Tables.{same_owner};
 ghost use Rattle.operation_defs.specs.Made.{made as made_of};
 ghost use Rattle.flow_defs.specs.Arrival.{around, decoded_insn, goes_on_behind as goes_on_in_owner, insn_of_object, tells_frame as tells_a_frame};
 ghost use Rattle.flow_defs.specs.Code.{point_at, points_of_object};

@@ -6,7 +6,7 @@ use Rattle.machine_defs.specs.declared.flow.Edge.{Edge}
 use Rattle.machine_defs.specs.declared.flow.EdgeKind.TheVariants.{Taken}
 use Rattle.machine_defs.specs.Program.{edge}
 use Rattle.alternatives.specs.declared.point.Point.{Point}
-use Rattle.jump_tables.specs.Tables.{same_owner}
+use Rattle.flow_defs.specs.Tables.{same_owner}
 use Rattle.flow_defs.specs.declared.destination.Destination.TheVariants.{ToOwnPoint}
 use Rattle.flow_defs.specs.Code.{number_of, point_at}
 use Rattle.flow_defs.specs.Edges.{edges_to, jump_edges}

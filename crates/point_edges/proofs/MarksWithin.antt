@@ -2,7 +2,7 @@
 use Rattle.std.proofs.Common.{◌≡◌, ℕ, Bool, ◌||◌, not, Some, sym, ap, ◌∙◌}
 use Rattle.flow_defs.specs.Coded.{Coded}
 use Rattle.alternatives.specs.declared.point.Point.{Point}
-use Rattle.jump_tables.specs.Tables.{same_owner}
+use Rattle.flow_defs.specs.Tables.{same_owner}
 use Rattle.flow_defs.specs.declared.destination.Destination.TheVariants.{ToOwnPoint}
 use Rattle.flow_defs.specs.Arrival.{is_padding}
 use Rattle.flow_defs.specs.Code.{number_of, point_at}

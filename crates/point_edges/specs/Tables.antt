@@ -3,7 +3,7 @@ use Rattle.std.specs.Prelude.{◌≡◌, ℕ, Option}
 use Rattle.ot_base.specs.declared.place.Place.{Place}
 use Rattle.flow_defs.specs.Coded.{Coded}
 use Rattle.alternatives.specs.declared.point.Point.{Point}
-use Rattle.jump_tables.specs.Tables.{jump_table, table_of}
+use Rattle.flow_defs.specs.Tables.{jump_table, table_of}
 use Rattle.jump_tables.specs.Kept.{KeptTables, start_in, table_in}
 use Rattle.flow_defs.specs.Code.{alternatives_of, texts_of}
 

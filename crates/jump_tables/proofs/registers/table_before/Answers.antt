@@ -5,7 +5,7 @@ use Rattle.std.proofs.lemmas.Bool.{le-ltb}
 use Rattle.ot_base.specs.declared.place.Place.{Place}
 use Rattle.x86_text.specs.declared.placed.PlacedInsn.{PlacedInsn}
 use Rattle.x86_text.specs.Code.{code_of}
-use Rattle.jump_tables.specs.Registers.{is_searched, tables_taken}
+use Rattle.flow_defs.specs.TableRegisters.{is_searched, tables_taken}
 use Rattle.jump_tables.proofs.Searching.{first_given, front_kept, goes_on, none_there, none_where_not}
 use Rattle.jump_tables.proofs.registers.table_before.Goals as goal
 

@@ -1,6 +1,6 @@
 use Rattle.std.proofs.Common.{◌≡◌, ◌-◌, ◌≤◌, take, length, reverse}
 use Rattle.x86_text.specs.Code.{code_of}
-use Rattle.jump_tables.specs.Registers.{is_searched, table_before, tables_taken}
+use Rattle.flow_defs.specs.TableRegisters.{is_searched, table_before, tables_taken}
 use Rattle.jump_tables.proofs.Searching.{first_given}
 use Rattle.jump_tables.proofs.registers.table_before.Given as goal
 

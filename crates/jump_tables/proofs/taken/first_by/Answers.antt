@@ -1,7 +1,7 @@
 use Rattle.std.proofs.Common.{◌≡◌, ℕ, List, Option, None, get_or, sym, pos, arith, ◌∙◌}
 use Rattle.ot_base.specs.declared.place.Place.{Place}
 use Rattle.elf_objects.specs.declared.symbol.Reloc.{Reloc}
-use Rattle.jump_tables.specs.Registers.{table_taken}
+use Rattle.flow_defs.specs.TableRegisters.{table_taken}
 use Rattle.jump_tables.proofs.Searching.{kept_here, kept_later, kept_nowhere, none_where_not}
 use Rattle.jump_tables.proofs.taken.first_by.Goals as goal
 

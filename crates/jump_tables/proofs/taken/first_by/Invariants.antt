@@ -1,6 +1,6 @@
 use Rattle.std.proofs.Common.{◌≡◌, drop}
 use Rattle.std.specs.List.{filter_map, slice_get}
-use Rattle.jump_tables.specs.Registers.{table_taken}
+use Rattle.flow_defs.specs.TableRegisters.{table_taken}
 use Rattle.jump_tables.proofs.taken.first_by.Given as goal
 
 abbrev pub invariant-loop-reloc : goal.invariant-loop-reloc

@@ -4,7 +4,7 @@ use Rattle.ot_base.specs.declared.place.Place.{Place}
 use Rattle.elf_objects.specs.declared.symbol.Reloc.{Reloc}
 use Rattle.elf_objects.specs.Contents.{relocs_at}
 use Rattle.symbols_relocs.specs.Relocs.{at_offset}
-use Rattle.jump_tables.specs.Registers.{table_taken}
+use Rattle.flow_defs.specs.TableRegisters.{table_taken}
 use Rattle.jump_tables.proofs.Searching.{found_from, later_from, none_from, none_where_not}
 use Rattle.jump_tables.proofs.taken.first_taken.Goals as goal
 

@@ -3,7 +3,7 @@ use Rattle.std.specs.List.{filter_map, flat_map, range_with_len, slice_get}
 use Rattle.ot_base.specs.declared.place.Place.{Place}
 use Rattle.elf_objects.specs.Contents.{relocs_at}
 use Rattle.symbols_relocs.specs.Relocs.{at_offset}
-use Rattle.jump_tables.specs.Registers.{table_taken, tables_taken}
+use Rattle.flow_defs.specs.TableRegisters.{table_taken, tables_taken}
 use Rattle.jump_tables.proofs.taken.first_taken.Given as goal
 
 abbrev pub invariant-loop-off : goal.invariant-loop-off

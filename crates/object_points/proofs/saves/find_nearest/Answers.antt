@@ -1,5 +1,5 @@
 use Rattle.std.proofs.Common.{◌≡◌, ◌-◌, ◌<◌, ℕ, eqb, get_or, None, sym, ◌∙◌, arith}
-use Rattle.jump_tables.specs.Tables.{same_owner}
+use Rattle.flow_defs.specs.Tables.{same_owner}
 use Rattle.object_points.specs.declared.saves.SavePoint.{SavePoint}
 use Rattle.object_points.proofs.Below.{elsewhere, last_is_nearest, none_is_below, other_owner, owners_equal}
 use Rattle.object_points.proofs.saves.find_nearest.Goals as goal

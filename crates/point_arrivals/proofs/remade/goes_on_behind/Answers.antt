@@ -1,7 +1,7 @@
 use Rattle.std.proofs.Common.{◌≡◌, false, get_or, Some, sym, ap, ◌∙◌}
 use Rattle.std.proofs.lemmas.List.Folds.{list_all_at}
 use Rattle.flow_defs.specs.Coded.{Coded}
-use Rattle.jump_tables.specs.Tables.{same_owner}
+use Rattle.flow_defs.specs.Tables.{same_owner}
 use Rattle.point_arrivals.proofs.Ending.{has_owner, one_other}
 use Rattle.point_arrivals.proofs.remade.goes_on_behind.Goals as goal
 

@@ -3,7 +3,7 @@ use Rattle.std.proofs.lemmas.List.{append-nil}
 use Rattle.flow_defs.specs.Coded.{Coded}
 use Rattle.alternatives.specs.declared.point.Point.{Point}
 use Rattle.machine_defs.specs.declared.flow.Edge.{Edge}
-use Rattle.jump_tables.specs.Tables.{same_owner}
+use Rattle.flow_defs.specs.Tables.{same_owner}
 use Rattle.flow_defs.specs.Code.{number_of, point_at}
 use Rattle.flow_defs.specs.Owners.{owner_of_point}
 use Rattle.point_edges.proofs.EdgesWithin.{with_number}

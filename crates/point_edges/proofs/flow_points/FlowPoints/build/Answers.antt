@@ -2,7 +2,7 @@ use Rattle.std.proofs.Common.{◌≡◌, List, ap, ◌∙◌}
 use Rattle.elf_objects.specs.Elf.{Elf}
 use Rattle.special_sections.specs.declared.entries.AltEntry.{AltEntry}
 use Rattle.alternatives.specs.declared.texts.SectionText.{SectionText}
-use Rattle.jump_tables.specs.Tables.{jump_table, table_of}
+use Rattle.flow_defs.specs.Tables.{jump_table, table_of}
 use Rattle.flow_defs.specs.Coded.{Coded}
 use Rattle.flow_defs.specs.Code.{alternatives_of, texts_of}
 use Rattle.point_edges.proofs.flow_points.FlowPoints.build.Goals as goal

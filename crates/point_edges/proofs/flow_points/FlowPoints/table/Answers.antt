@@ -1,7 +1,7 @@
 use Rattle.std.proofs.Common.{◌≡◌, ℕ, List, [], Option, if◌then◌else◌, sym, ap, ◌∙◌}
 use Rattle.ot_base.specs.declared.place.Place.{Place}
 use Rattle.flow_defs.specs.Coded.{Coded}
-use Rattle.jump_tables.specs.Tables.{table_of}
+use Rattle.flow_defs.specs.Tables.{table_of}
 use Rattle.alternatives.specs.declared.point.Point.{Point}
 use Rattle.flow_defs.specs.Arrival.{is_padding}
 use Rattle.flow_defs.specs.Code.{alternatives_of, point_at, texts_of}

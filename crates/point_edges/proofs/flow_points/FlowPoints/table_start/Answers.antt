@@ -2,7 +2,7 @@ use Rattle.std.proofs.Common.{◌≡◌, ap, ◌∙◌}
 use Rattle.alternatives.specs.declared.point.Point.{Point}
 use Rattle.flow_defs.specs.Coded.{Coded}
 use Rattle.flow_defs.specs.Code.{alternatives_of, point_at, texts_of}
-use Rattle.jump_tables.specs.Tables.{jump_table}
+use Rattle.flow_defs.specs.Tables.{jump_table}
 use Rattle.point_edges.specs.Tables.{table_start_of}
 use Rattle.point_edges.proofs.flow_points.FlowPoints.table_start.Goals as goal
 

@@ -16,8 +16,8 @@ use Rattle.symbols_relocs.specs.Parts.{owner_at}
 use Rattle.special_sections.specs.declared.entries.AltEntry.{AltEntry}
 use Rattle.alternatives.specs.declared.point.Point.{Point}
 use Rattle.alternatives.specs.declared.texts.SectionText.{SectionText}
-use Rattle.jump_tables.specs.Registers.{register_table}
-pub use Rattle.jump_tables.specs.Fields.{boundary_named, checked_behind, reloc_of_kind, same_owner, table_named}
+use Rattle.flow_defs.specs.TableRegisters.{register_table}
+pub use Rattle.flow_defs.specs.TableFields.{boundary_named, checked_behind, reloc_of_kind, same_owner, table_named}
 
 -- an operation itself names the field that holds a table's address
 abbrev pub names_table : Op → Bool

@@ -25,7 +25,7 @@ use Rattle.symbols_relocs.specs.Targets.{branch_target}
 use Rattle.special_sections.specs.declared.entries.AltEntry.{AltEntry}
 use Rattle.alternatives.specs.Sites.{is_in_site}
 use Rattle.alternatives.specs.declared.texts.SectionText.{SectionText}
-use Rattle.jump_tables.specs.Fields.{boundary_named, may_hold_tables, same_owner}
+use Rattle.flow_defs.specs.TableFields.{boundary_named, may_hold_tables, same_owner}
 
 -- the bytes of a section from a place on
 abbrev pub bytes_from : Elf → Place → List ℕ
