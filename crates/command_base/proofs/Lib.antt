@@ -6,6 +6,7 @@ pub mod DumpLemmas
 pub mod UnwindLaws
 pub mod UnwindLemmas
 pub mod NamesLemmas
+pub mod InputLemmas
 pub mod Content
 pub mod FaultStops
 pub mod Stops

@@ -1,6 +1,7 @@
 pub mod Code
 pub mod Dump
 pub mod FlowText
+pub mod Inputs
 pub mod Names
 pub mod Outside
 pub mod Printing

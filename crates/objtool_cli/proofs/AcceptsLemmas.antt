@@ -30,7 +30,7 @@ use Rattle.object_check.specs.Outcome.{HasRows, IsUnbroken}
 use Rattle.orc_output.specs.Tables.{symbols_needed}
 use Rattle.command_base.proofs.DumpLaws.{one_object, unread_told}
 use Rattle.objtool_cli.proofs.CheckableLemmas.{checkable_unrefused, one_rows, some_contained}
-use Rattle.objtool_cli.proofs.InputLemmas.{IsKnown, one_reading}
+use Rattle.command_base.proofs.InputLemmas.{IsKnown, one_reading}
 use Rattle.objtool_cli.proofs.SameCommand.{ends_as}
 use Rattle.command_base.proofs.Stops.{names_told, write_told}
 

@@ -22,9 +22,9 @@ use Rattle.command_base.proofs.ConcludeLemmas.{concluded_no_warnings, concluded_
 use Rattle.command_base.proofs.DumpLaws.{fault_left, no_memory_left, unread_left}
 use Rattle.objtool_cli.specs.Cfi.{BreaksRule, CfiMayChange, EndsCfi, GetNoFrames, Gets, HasWarnings, IsUnchecked, MayGetFrames, StopsCfi, TellsWarnings, done, has_frames, malformed, no_memory, out_of_memory, refused, stopped, too_many_sections, too_many_symbols, unchecked, unflowed, unlinked, unread, unwritten, warned, without_names}
 use Rattle.command_base.specs.Refusing.{IsRefusedOrFails, IsWarnedOrFails, Tells}
-use Rattle.objtool_cli.specs.Inputs.{input_refused, input_unread}
+use Rattle.command_base.specs.Inputs.{input_refused, input_unread}
 use Rattle.objtool_cli.specs.FramesRefused.{RefusesCfi}
-use Rattle.objtool_cli.proofs.InputLemmas.{IsKnown, named_in, names_refuse, one_reading, unrefused}
+use Rattle.command_base.proofs.InputLemmas.{IsKnown, named_in, names_refuse, one_reading, unrefused}
 use Rattle.objtool_cli.specs.Written.{OutTellsFrames}
 use Rattle.command_base.proofs.Content.{get-insert_same, held_is, written_others}
 use Rattle.objtool_cli.proofs.FramesGets.{breaks_unbroken, broken_excluded, gets_excluded, gets_unwarned, warns_breaks}

@@ -16,17 +16,17 @@ use Rattle.objtool_cli.specs.Unwinding.{OutUnwinds}
 use Rattle.cli_words.specs.Grammar.{Command, cfa, cfi, check, demo, dump, entry, explain, find, help, list, merge, show, sites, unwind, version}
 use Rattle.cli_words.specs.declared.options.CheckOptions.{CheckOptions}
 use Rattle.objtool_cli.specs.Words.{Meaning, entry_options, is_silent}
-use Rattle.objtool_cli.proofs.EntryLaws.{entry_silent, entry_warned}
+use Rattle.code_commands.proofs.EntryLaws.{entry_silent, entry_warned}
 use Rattle.command_base.proofs.UnwindLaws.{unwind_no_warnings}
 use Rattle.command_base.proofs.DumpLaws.{dump_no_warnings}
 use Rattle.objtool_cli.proofs.SummaryEnds.{sums_warned}
 use Rattle.command_base.proofs.ListLaws.{list_no_warnings}
-use Rattle.objtool_cli.proofs.SitesLaws.{sites_no_warnings, sites_silent}
+use Rattle.code_commands.proofs.SitesLaws.{sites_no_warnings, sites_silent}
 use Rattle.command_base.proofs.CfaLaws.{cfa_no_warnings}
 use Rattle.objtool_cli.proofs.CfiLaws.{cfi_silent, cfi_warned}
 use Rattle.command_base.proofs.MergeLaws.{merge_no_warnings, merged_silently}
 use Rattle.command_base.proofs.FindLaws.{find_no_warnings}
-use Rattle.objtool_cli.proofs.ShowLaws.{show_no_warnings}
+use Rattle.code_commands.proofs.ShowLaws.{show_no_warnings}
 use Rattle.objtool_cli.proofs.SameCommand.{done_as, not_both}
 use Rattle.objtool_cli.proofs.StatusLemmas.{warnings_not_done, done_no_warnings}
 

@@ -27,7 +27,7 @@ use Rattle.command_base.specs.declared.stop.CommandStop.TheVariants as stop
 use Rattle.command_base.specs.Outside.{Outside, Output}
 use Rattle.objtool_cli.specs.Checked.{Accepts, IsRefusal, crowded}
 use Rattle.objtool_cli.specs.Command.{EndsCheck, IsDone, Stops, refused, stopped, unwritten, warned}
-use Rattle.objtool_cli.specs.Inputs.{IsRead}
+use Rattle.command_base.specs.Inputs.{IsRead}
 use Rattle.objtool_cli.specs.Telling.{TellsWarnings, printed, unread}
 use Rattle.objtool_cli.specs.Writing.{IsCrowded, IsTable, StopsAtTable, WritesTable, crowded as too_many, cut_off}
 use Rattle.command_base.specs.Writing.{StopsAtWrite}

@@ -24,7 +24,7 @@ use Rattle.command_base.proofs.DumpLaws.{one_object}
 use Rattle.command_base.specs.declared.refusal.Refusal.{Refusal}
 use Rattle.command_base.specs.declared.refusal.Refusal.TheVariants as refusal
 use Rattle.objtool_cli.specs.Checked.{IsUncheckable, TellsCheckFault, malformed, unchecked}
-use Rattle.objtool_cli.proofs.NoFault.{none_and_some, not_unflowed, not_unlinked}
+use Rattle.code_commands.proofs.NoFault.{none_and_some, not_unflowed, not_unlinked}
 
 not_faulty : OneOutcome → (o : Coded) (why : CheckFault) → why ≢ fault.NoMemory → IsCheckable o → IsCheckFault o why → ⊥
 not_faulty one o why some can (unlinked told other h) = not_unlinked one o told other can.in_order.linked h

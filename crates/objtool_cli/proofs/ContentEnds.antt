@@ -10,7 +10,7 @@ use Rattle.command_base.proofs.Content.{written_others}
 use Rattle.command_base.proofs.Stops.{neither, write_told}
 use Rattle.objtool_cli.specs.Command.{ChangesOut, Ends, EndsAs, EndsCheck, MayChange, Stops, done, ended, faulty, refused, stopped, unfinished, unread, unwritten, warned, without_names}
 use Rattle.cli_words.specs.Grammar.{Command, cfa, cfi, check, demo, dump, entry, explain, find, help, list, merge, show, sites, unwind, version}
-use Rattle.objtool_cli.proofs.SitesLaws.{sites_changes, sites_unchanged}
+use Rattle.code_commands.proofs.SitesLaws.{sites_changes, sites_unchanged}
 use Rattle.objtool_cli.proofs.CfiLaws.{cfi_changes, cfi_unchanged}
 use Rattle.command_base.proofs.MergeLaws.{merge_changes, merge_unchanged}
 use Rattle.cli_words.specs.declared.options.CheckOptions.{CheckOptions}

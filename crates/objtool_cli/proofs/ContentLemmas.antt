@@ -8,7 +8,7 @@ use Rattle.command_base.specs.Outside.{Outside}
 use Rattle.ot_base.specs.NameLists.{NameLists}
 use Rattle.cli_words.specs.declared.options.CheckOptions.{CheckOptions}
 use Rattle.objtool_cli.specs.Command.{IsDone}
-use Rattle.objtool_cli.specs.Inputs.{IsRead}
+use Rattle.command_base.specs.Inputs.{IsRead}
 use Rattle.objtool_cli.specs.Promises.{InKeepsPromises}
 use Rattle.objtool_cli.specs.Unwinding.{OutUnwinds, ReadUnwinds}
 use Rattle.elf_objects.specs.Elf.{Elf}

@@ -16,15 +16,15 @@ use Rattle.ot_base.specs.NameLists.{NameLists}
 use Rattle.cli_words.specs.declared.options.CheckOptions.{CheckOptions}
 use Rattle.cli_words.specs.Grammar.{Command, cfa, cfi, check, demo, dump, entry, explain, find, help, list, merge, show, sites, unwind, version}
 use Rattle.objtool_cli.specs.Words.{Meaning, entry_options}
-use Rattle.objtool_cli.proofs.EntryLaws.{entry_fault, entry_sink_fault}
+use Rattle.code_commands.proofs.EntryLaws.{entry_fault, entry_sink_fault}
 use Rattle.command_base.proofs.UnwindLaws.{unwind_fault, unwind_sink_fault}
 use Rattle.command_base.proofs.DumpLaws.{dump_fault, dump_sink_fault}
 use Rattle.command_base.proofs.ListLaws.{list_fault, list_sink_fault}
-use Rattle.objtool_cli.proofs.SitesLaws.{sites_fault, sites_sink_fault}
+use Rattle.code_commands.proofs.SitesLaws.{sites_fault, sites_sink_fault}
 use Rattle.command_base.proofs.CfaLaws.{cfa_fault, cfa_sink_fault}
 use Rattle.command_base.proofs.MergeLaws.{merge_file_fault, merge_sink_fault}
 use Rattle.command_base.proofs.FindLaws.{find_fault, find_sink_fault}
-use Rattle.objtool_cli.proofs.ShowLaws.{show_fault, show_sink_fault}
+use Rattle.code_commands.proofs.ShowLaws.{show_fault, show_sink_fault}
 use Rattle.objtool_cli.proofs.CfiEnds.{cfi_fault, cfi_sink_fault}
 use Rattle.command_base.proofs.DumpLaws.{read_fault}
 use Rattle.command_base.proofs.Stops.{names_fault, write_fault}

@@ -25,7 +25,7 @@ use Rattle.command_base.specs.declared.status.Status.TheVariants as status
 use Rattle.command_base.specs.declared.stop.CommandStop.{CommandStop}
 use Rattle.command_base.specs.declared.stop.CommandStop.TheVariants as stop
 use Rattle.objtool_cli.specs.Cfi.{EndsCfi, GetNoFrames, MayGetFrames, StopsCfi, done, no_memory, refused, stopped, too_many_symbols, unread, unwritten, warned, without_names}
-use Rattle.objtool_cli.specs.Inputs.{IsRead}
+use Rattle.command_base.specs.Inputs.{IsRead}
 use Rattle.objtool_cli.specs.FramesOrder.{GetsFrames, IsCheckable, allowances_under, default_rules, program_under}
 use Rattle.objtool_cli.specs.Written.{IsCrowded, TellsRows}
 use Rattle.objtool_cli.proofs.Undoes.{rules_undo}

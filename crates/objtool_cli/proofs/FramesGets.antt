@@ -31,7 +31,7 @@ use Rattle.command_base.proofs.FaultStops.{of_flow, of_link, of_parse}
 use Rattle.objtool_cli.specs.Cfi.{BreaksRule, GetNoFrames, Gets, HasWarnings, IsUnchecked, has_frames, malformed, no_memory, out_of_memory, too_many_sections, too_many_symbols, unchecked, unflowed, unlinked}
 use Rattle.objtool_cli.specs.FramesOrder.{IsCheckable, allowances_under, default_rules, most_sections, program_under}
 use Rattle.objtool_cli.proofs.CheckableLemmas.{one_rows, some_contained}
-use Rattle.objtool_cli.proofs.NoFault.{none_and_some, not_unflowed, not_unlinked}
+use Rattle.code_commands.proofs.NoFault.{none_and_some, not_unflowed, not_unlinked}
 
 -- ---- from the faults of those who read an object
 

@@ -10,9 +10,7 @@ pub mod DemoBytes
 pub mod DemoEnds
 pub mod DemoWords
 pub mod FaultEnds
-pub mod InputLemmas
 pub mod LaterLemmas
-pub mod NoFault
 pub mod ParseLemmas
 pub mod PlacementLemmas
 pub mod ReadBackEnds
@@ -25,9 +23,6 @@ pub mod TextEnds
 pub mod UnwindingLemmas
 pub mod UsageEnds
 pub mod UsageLemmas
-pub mod SitesGets
-pub mod SitesEnds
-pub mod SitesLaws
 mod FramesGets
 mod FramesEnds
 pub mod CfiLaws
@@ -36,10 +31,3 @@ mod Begun
 mod LastRule
 mod Undoing
 mod Undoes
-pub mod Empty
-pub mod EntryUncheckable
-pub mod EntryEnds
-pub mod EntryLaws
-mod ShowCode
-pub mod ShowLaws
-mod ShowLines

@@ -14,8 +14,8 @@ use Rattle.cli_words.specs.Grammar.{cfa, cfi, dump, entry, find, list, merge, sh
 use Rattle.objtool_cli.specs.Words.{Meaning, entry_options}
 use Rattle.cli_words.specs.declared.options.EntryRules.{EntryRules}
 use Rattle.command_base.specs.Code.{IsInOrder}
-use Rattle.objtool_cli.specs.Entry.{BreaksEntryRule, IsUnbroken}
-use Rattle.objtool_cli.proofs.EntryLaws.{entry_accepts, entry_warns}
+use Rattle.code_commands.specs.Entry.{BreaksEntryRule, IsUnbroken}
+use Rattle.code_commands.proofs.EntryLaws.{entry_accepts, entry_warns}
 use Rattle.ot_base.specs.declared.row.PlacedRow.{PlacedRow}
 use Rattle.elf_objects.specs.Elf.{Elf}
 use Rattle.command_base.specs.Dump.{HoldsRows, IsAnswered, IsDumped}
@@ -31,10 +31,10 @@ use Rattle.x86_map.specs.declared.map.Map.{Map}
 use Rattle.x86_decode.specs.Decoding.{OneOutcome}
 use Rattle.command_base.specs.Names.{HasNames}
 use Rattle.site_lists.specs.Listed.{Listed}
-use Rattle.objtool_cli.specs.SitesOrder.{GetsSites}
+use Rattle.code_commands.specs.SitesOrder.{GetsSites}
 use Rattle.command_base.specs.List.{HoldsLists}
 use Rattle.command_base.proofs.ListLaws.{list_left}
-use Rattle.objtool_cli.proofs.SitesLaws.{sites_left}
+use Rattle.code_commands.proofs.SitesLaws.{sites_left}
 use Rattle.eh_frame.specs.declared.rule.PlacedRule.{PlacedRule}
 use Rattle.command_base.specs.Cfa.{SaysRules}
 use Rattle.objtool_cli.specs.Cfi.{BreaksRule, Gets}
@@ -50,8 +50,8 @@ use Rattle.orc_merge.specs.declared.part.Part.{Part}
 use Rattle.command_base.specs.Layouts.{IsLayoutOf}
 use Rattle.command_base.specs.MergedObjects.{ArePartsOf}
 use Rattle.command_base.proofs.FindLaws.{find_left}
-use Rattle.objtool_cli.proofs.ShowLaws.{show_accepts}
-use Rattle.objtool_cli.specs.Show.{HasCode}
+use Rattle.code_commands.proofs.ShowLaws.{show_accepts}
+use Rattle.code_commands.specs.Show.{HasCode}
 use Rattle.flow_defs.specs.Program.{program_of}
 use Rattle.command_base.proofs.MergeLaws.{merge_left}
 use Rattle.objtool_cli.proofs.SameCommand.{done_as, ends_as}

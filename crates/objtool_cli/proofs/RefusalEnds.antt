@@ -22,20 +22,20 @@ use Rattle.command_base.proofs.UnwindLaws.{unwind_no_warnings, unwound as files_
 use Rattle.objtool_cli.specs.Checked.{IsRefusal}
 use Rattle.objtool_cli.specs.Command.{Ends, EndsAs, EndsCheck, Stops, done, ended, faulty, refused, stopped, unfinished, unread, unwritten, warned, without_names}
 use Rattle.command_base.specs.Refusing.{IsRefusedOrFails, Tells}
-use Rattle.objtool_cli.specs.Inputs.{input_refused, input_unread}
+use Rattle.command_base.specs.Inputs.{input_refused, input_unread}
 use Rattle.objtool_cli.specs.Refused.{IsRefused, RefusesAs, RefusesCheck, RefusesDemo, RefusesDump, RefusesUnwind, TellsRefusal, image_unread, object_unread, tables_unread, without_rows, without_walk}
 use Rattle.objtool_cli.specs.Summary.{IsOrFails, SumsUp, demo_bytes, demo_title}
 use Rattle.objtool_cli.specs.Words.{Meaning, entry_options}
-use Rattle.objtool_cli.proofs.EntryLaws.{entry_refused, entry_told}
+use Rattle.code_commands.proofs.EntryLaws.{entry_refused, entry_told}
 use Rattle.command_base.proofs.ListLaws.{list_refused, list_told}
-use Rattle.objtool_cli.proofs.SitesLaws.{sites_refused, sites_told}
+use Rattle.code_commands.proofs.SitesLaws.{sites_refused, sites_told}
 use Rattle.command_base.proofs.CfaLaws.{cfa_refused, cfa_told}
 use Rattle.objtool_cli.proofs.CfiLaws.{cfi_refused, cfi_told}
 use Rattle.command_base.proofs.MergeLaws.{merge_refused, merge_told}
 use Rattle.command_base.proofs.FindLaws.{find_refused, find_told}
-use Rattle.objtool_cli.proofs.ShowLaws.{show_refused, show_told}
+use Rattle.code_commands.proofs.ShowLaws.{show_refused, show_told}
 use Rattle.objtool_cli.proofs.AcceptsLemmas.{accepted_unrefused, broken_unrefused, refused_memory, warns_breaks}
-use Rattle.objtool_cli.proofs.InputLemmas.{named_in, names_refuse, unrefused}
+use Rattle.command_base.proofs.InputLemmas.{named_in, names_refuse, unrefused}
 use Rattle.objtool_cli.proofs.SameCommand.{ends_as}
 use Rattle.objtool_cli.proofs.StatusLemmas.{done_no_warnings, warnings_not_done}
 use Rattle.objtool_cli.proofs.SummaryEnds.{sums_refused}

@@ -24,11 +24,11 @@ use Rattle.cli_words.specs.declared.options.CheckOptions.{CheckOptions}
 use Rattle.objtool_cli.specs.Words.{Meaning, entry_options}
 use Rattle.cli_words.specs.Grammar.{Command, cfa, cfi, check, demo, dump, entry, explain, find, help, list, merge, show, sites, unwind, version}
 use Rattle.command_base.proofs.ListLaws.{list_no_usage}
-use Rattle.objtool_cli.proofs.SitesLaws.{sites_no_usage}
+use Rattle.code_commands.proofs.SitesLaws.{sites_no_usage}
 use Rattle.command_base.proofs.CfaLaws.{cfa_no_usage}
 use Rattle.entry_rules.specs.declared.options.EntryOptions.{EntryOptions}
-use Rattle.objtool_cli.specs.Entry as entering
-use Rattle.objtool_cli.specs.Entry.{EndsEntry, IsUncheckable, StopsEntry}
+use Rattle.code_commands.specs.Entry as entering
+use Rattle.code_commands.specs.Entry.{EndsEntry, IsUncheckable, StopsEntry}
 use Rattle.objtool_cli.specs.Cfi as framing
 use Rattle.objtool_cli.specs.Cfi.{EndsCfi, GetNoFrames, IsUnchecked, StopsCfi}
 use Rattle.elf_objects.specs.Elf.{Elf}
@@ -36,7 +36,7 @@ use Rattle.ot_base.specs.NameLists.{NameLists}
 use Rattle.x86_map.specs.declared.map.Map.{Map}
 use Rattle.command_base.proofs.MergeLaws.{merge_no_usage}
 use Rattle.command_base.proofs.FindLaws.{find_no_usage}
-use Rattle.objtool_cli.proofs.ShowLaws.{show_no_usage}
+use Rattle.code_commands.proofs.ShowLaws.{show_no_usage}
 
 not_usage : (end : Status) (text : List ℕ) (before after : Output) (x : Status) → Prints end text before after x → end ≢ status.Usage → x ≢ status.Usage
 not_usage end text before after x (whole at all) other e = other (sym at ∙ e)

@@ -37,7 +37,7 @@ use Rattle.command_base.specs.declared.stop.CommandStop.TheVariants.{NoMemory, R
 use Rattle.objtool_cli.specs.FramesOrder.{GetsFrames, IsCheckable, allowances_under, default_rules, most_sections, program_under}
 use Rattle.objtool_cli.specs.Undone.{RulesUndo}
 use Rattle.objtool_cli.specs.Written.{TellsRows}
-use Rattle.objtool_cli.specs.Inputs.{IsRead}
+use Rattle.command_base.specs.Inputs.{IsRead}
 
 -- ---- what the command makes of the bytes of IN
 

@@ -30,15 +30,15 @@ use Rattle.objtool_cli.specs.Summary.{PrintsWarningsOf, SumsUp, demo_bytes, demo
 use Rattle.cli_words.specs.declared.options.EntryRules.{EntryRules}
 use Rattle.objtool_cli.specs.Words.{Meaning, entry_options, explained}
 use Rattle.command_base.specs.Writing.{StopsAtWrite}
-use Rattle.objtool_cli.specs.Sites.{EndsSites, SitesMayChange}
+use Rattle.code_commands.specs.Sites.{EndsSites, SitesMayChange}
 use Rattle.command_base.specs.List.{EndsList}
-use Rattle.objtool_cli.specs.Entry.{EndsEntry, PrintsEntryWarnings}
+use Rattle.code_commands.specs.Entry.{EndsEntry, PrintsEntryWarnings}
 use Rattle.objtool_cli.specs.Cfi.{CfiMayChange, EndsCfi, TellsWarnings}
 use Rattle.command_base.specs.Cfa.{EndsCfa}
 use Rattle.command_base.specs.Merge.{EndsMerge, MayBeMerged}
 use Rattle.command_base.specs.Find.{EndsFind}
-use Rattle.objtool_cli.specs.Show.{EndsShow}
-use Rattle.objtool_cli.specs.Inputs.{IsRead}
+use Rattle.code_commands.specs.Show.{EndsShow}
+use Rattle.command_base.specs.Inputs.{IsRead}
 
 -- the file may read as bytes that are accepted, and for which these are to be written
 pub record MayBeAccepted (content : Option Content) (input : List ℕ) (options : CheckOptions) (names : Option (List ℕ)) (table : List ℕ) : Type 0 where

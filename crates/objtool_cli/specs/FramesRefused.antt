@@ -4,7 +4,7 @@ use Rattle.std.specs.Prelude.{ℕ, List, Option}
 use Rattle.ot_files.specs.Content.{Content}
 use Rattle.x86_map.specs.declared.map.Map.{Map}
 use Rattle.command_base.specs.declared.stop.CommandStop.{CommandStop}
-use Rattle.objtool_cli.specs.Inputs.{RefusesInput}
+use Rattle.command_base.specs.Inputs.{RefusesInput}
 use Rattle.objtool_cli.specs.Cfi.{GetNoFrames}
 
 -- `cfi IN OUT`: IN is read; then the names file, where one is given, and its lines; then the bytes of IN are parsed, their code is read

@@ -1,5 +1,4 @@
 pub mod Checked
-pub mod Inputs
 pub mod Telling
 pub mod Command
 pub mod Promises
@@ -11,19 +10,12 @@ pub mod Writing
 pub use Rattle.site_lists.specs.Sites as CodeSites
 pub use Rattle.site_lists.specs.Sections as SiteSections
 pub use Rattle.site_lists.specs.Listed as ListedSites
-pub use Rattle.objtool_cli.specs.Sites as SiteObjects
+pub use Rattle.code_commands.specs.Sites as SiteObjects
 pub use Rattle.objtool_cli.specs.Written as FrameObjects
 pub use Rattle.command_base.specs.Status
-pub mod SitesOrder
-pub mod Sites
-pub mod SitesRefused
 pub mod FramesOrder
 pub mod Undone
 pub mod Written
 pub mod Cfi
 pub mod FramesChecked
 pub mod FramesRefused
-pub mod Entry
-pub mod EntryRefused
-pub mod Show
-pub mod ShowRefused

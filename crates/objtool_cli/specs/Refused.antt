@@ -12,15 +12,15 @@ use Rattle.command_base.specs.Dump.{HoldsNoRows}
 use Rattle.command_base.specs.Reading.{IsUnreadable}
 use Rattle.command_base.specs.Refusing.{Tells}
 use Rattle.command_base.specs.Unwind.{HasNoWalk}
-use Rattle.objtool_cli.specs.Inputs.{RefusesInput}
+use Rattle.command_base.specs.Inputs.{RefusesInput}
 use Rattle.objtool_cli.specs.Checked.{IsRefusal, IsUncheckable}
-use Rattle.objtool_cli.specs.SitesRefused.{RefusesSites}
+use Rattle.code_commands.specs.SitesRefused.{RefusesSites}
 use Rattle.command_base.specs.ListRefused.{RefusesList}
-use Rattle.objtool_cli.specs.EntryRefused.{RefusesEntry}
+use Rattle.code_commands.specs.EntryRefused.{RefusesEntry}
 use Rattle.objtool_cli.specs.FramesRefused.{RefusesCfi}
 use Rattle.command_base.specs.CfaRefused.{RefusesCfa}
 use Rattle.command_base.specs.MergeRefused.{RefusesFind, RefusesMerge}
-use Rattle.objtool_cli.specs.ShowRefused.{RefusesShow}
+use Rattle.code_commands.specs.ShowRefused.{RefusesShow}
 use Rattle.objtool_cli.specs.Summary.{demo_bytes, no_options}
 use Rattle.objtool_cli.specs.Words.{Meaning}
 

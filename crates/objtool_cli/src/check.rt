@@ -8,7 +8,7 @@ ghost use Rattle.x86_map.specs.declared.map.Map.{Map};
 ghost use Rattle.object_check.specs.Order.{IsCheckFault};
 ghost use Rattle.objtool_cli.specs.Checked.{IsUnchecked};
 ghost use Rattle.objtool_cli.specs.Command.{EndsCheck};
-ghost use Rattle.objtool_cli.specs.Inputs.{IsRead};
+ghost use Rattle.command_base.specs.Inputs.{IsRead};
 
 use crate::telling::tell_warnings;
 use crate::words::Check;

@@ -8,12 +8,12 @@ ghost use Rattle.elf_objects.specs.Object.{IsObject};
 ghost use Rattle.flow_defs.specs.Coded.{coded_by};
 ghost use Rattle.x86_map.specs.declared.map.Map.{Map};
 ghost use Rattle.site_lists.specs.Listed.{Listed};
-ghost use Rattle.objtool_cli.specs.SitesOrder.{GetsSites};
-ghost use Rattle.objtool_cli.specs.Sites.{OutListsSites};
+ghost use Rattle.code_commands.specs.SitesOrder.{GetsSites};
+ghost use Rattle.code_commands.specs.Sites.{OutListsSites};
 ghost use Rattle.command_base.specs.List.{HoldsLists, IsListed};
 ghost use Rattle.cli_words.specs.declared.options.EntryRules.{EntryRules as RulesValue};
 ghost use Rattle.command_base.specs.Code.{IsInOrder};
-ghost use Rattle.objtool_cli.specs.Entry.{BreaksEntryRule, InKeepsEntryRules, IsUnbroken};
+ghost use Rattle.code_commands.specs.Entry.{BreaksEntryRule, InKeepsEntryRules, IsUnbroken};
 ghost use Rattle.eh_frame.specs.declared.rule.PlacedRule.{PlacedRule as RuleValue};
 ghost use Rattle.objtool_cli.specs.Cfi.{BreaksRule as BreaksDefaultRule, Gets};
 ghost use Rattle.command_base.specs.Cfa.{IsTold, SaysRules};
@@ -27,7 +27,7 @@ ghost use Rattle.orc_merge.specs.TableBytes.{table_bytes};
 ghost use Rattle.orc_merge.specs.declared.part.Part.{Part as PartValue};
 ghost use Rattle.command_base.specs.Alike.{FindAlike, WalkAlike};
 ghost use Rattle.command_base.specs.Find.{IsFound};
-ghost use Rattle.objtool_cli.specs.Show.{HasCode, PrintsListing};
+ghost use Rattle.code_commands.specs.Show.{HasCode, PrintsListing};
 ghost use Rattle.flow_defs.specs.Program.{program_of};
 ghost use Rattle.command_base.specs.Layouts.{IsLayoutOf};
 ghost use Rattle.command_base.specs.Merge.{IsMerged};
@@ -52,17 +52,12 @@ ghost use Rattle.objtool_cli.specs.Command.{Ends, EndsCheck, EndsIn, IsFaulty, I
 
 use crate::check::check;
 use crate::demo::demo;
-use crate::entry_checking::entry;
-use crate::entry_words::EntryAsked;
 use crate::frames_adding::cfi;
 use crate::frames_words::CfiAsked;
-use crate::show_telling::show;
-use crate::show_words::ShowAsked;
-use crate::sites_adding::sites;
-use crate::sites_words::SitesAsked;
 use crate::words::Check;
 use cli_matches::{help_text, read_words, version_text};
 use cli_words::{Command, EntryRules, UsageFault};
+use code_commands::{EntryAsked, ShowAsked, SitesAsked, entry, show, sites};
 use command_base::{
     CommandStop, MAX_IMAGE_BYTES, Status, Usage, cfa, conclude, dump, find, list, merge,
     print_line, read_file, read_names, unwind,

@@ -16,7 +16,7 @@ ghost use Rattle.command_base.specs.Printing.{IsOutputFault};
 ghost use Rattle.command_base.specs.declared.stop.CommandStop.{CommandStop as StopValue};
 ghost use Rattle.objtool_cli.specs.Cfi.{BreaksRule, CfiMayChange, EndsCfi, Gets, TellsWarnings};
 ghost use Rattle.objtool_cli.specs.FramesOrder.{IsCheckable, allowances_under, default_rules, program_under};
-ghost use Rattle.objtool_cli.specs.Inputs.{IsRead};
+ghost use Rattle.command_base.specs.Inputs.{IsRead};
 ghost use Rattle.command_base.specs.Refusing.{IsRefusedOrFails, IsWarnedOrFails, Tells};
 ghost use Rattle.objtool_cli.specs.FramesRefused.{RefusesCfi};
 ghost use Rattle.objtool_cli.specs.Written.{OutTellsFrames};

@@ -6,13 +6,13 @@ use Rattle.objtool_cli.proofs.ReadBackEnds.{cfa_answered, cfi_answered, cfi_brok
 use Rattle.objtool_cli.proofs.SameCommand.{done_as}
 use Rattle.cli_words.specs.Grammar.{cfa, cfi, entry, find, list, merge, show, sites}
 use Rattle.objtool_cli.specs.Words.{entry_options}
-use Rattle.objtool_cli.proofs.EntryLaws.{entry_keeps}
+use Rattle.code_commands.proofs.EntryLaws.{entry_keeps}
 use Rattle.command_base.proofs.ListLaws.{listed_file}
-use Rattle.objtool_cli.proofs.SitesLaws.{sites_listed}
+use Rattle.code_commands.proofs.SitesLaws.{sites_listed}
 use Rattle.command_base.proofs.CfaLaws.{file_told}
 use Rattle.objtool_cli.proofs.CfiLaws.{frames_told}
 use Rattle.command_base.proofs.FindLaws.{found_row}
-use Rattle.objtool_cli.proofs.ShowLaws.{show_printed}
+use Rattle.code_commands.proofs.ShowLaws.{show_printed}
 use Rattle.command_base.proofs.MergeLaws.{finds_alike, merged, walks_alike}
 use Rattle.objtool_cli.proofs.RefusalEnds.{refusal_answered, refusal_told}
 use Rattle.objtool_cli.proofs.TextEnds.{text_shown}

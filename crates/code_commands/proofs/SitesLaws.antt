@@ -1,0 +1,181 @@
+-- What follows from how `sites` ends.
+use Rattle.std.proofs.Common.{◌≡◌, ℕ, List, refl, sym, ap, subst, inl, inr}
+use Rattle.std.specs.Prelude.{◌≢◌, ◌⊎◌, Option, Some, None, Ok}
+use Rattle.std.specs.FinMap.{get}
+use Rattle.ot_base.specs.NameLists.{NameLists}
+use Rattle.ot_files.specs.Causes.{Rose}
+use Rattle.ot_files.specs.Content.{Content, reading, writing}
+use Rattle.elf_objects.specs.declared.TheConstants.{MAX_FILE_BYTES}
+use Rattle.elf_objects.specs.Elf.{Elf}
+use Rattle.elf_objects.specs.Object.{IsObject}
+use Rattle.x86_decode.specs.Decoding.{OneOutcome}
+use Rattle.x86_map.specs.declared.map.Map.{Map}
+use Rattle.flow_defs.specs.Coded.{coded_by}
+use Rattle.command_base.specs.Dump.{IsAnswered}
+use Rattle.command_base.specs.Names.{HasNames}
+use Rattle.command_base.specs.Outside.{Outside, Output}
+use Rattle.command_base.specs.Printing.{Concludes}
+use Rattle.command_base.specs.Stop.{status_of}
+use Rattle.command_base.specs.declared.status.Status.{Status}
+use Rattle.command_base.specs.declared.status.Status.TheVariants.{Done, Warnings, Refused, Usage, FileFault, SinkFault, NoMemory}
+use Rattle.command_base.specs.declared.stop.CommandStop.{CommandStop}
+use Rattle.command_base.proofs.ConcludeLemmas.{concluded_fault, concluded_no_warnings, concluded_not_done, concluded_sink_fault}
+use Rattle.command_base.proofs.DumpLaws.{fault_left, no_memory_left, read_fault, unread_left}
+use Rattle.code_commands.specs.SitesOrder.{GetsSites}
+use Rattle.command_base.specs.Refusing.{IsRefusedOrFails, Tells}
+use Rattle.command_base.specs.Inputs.{input_refused, input_unread}
+use Rattle.code_commands.specs.SitesRefused.{RefusesSites}
+use Rattle.command_base.proofs.InputLemmas.{named_in, names_refuse, unrefused}
+use Rattle.code_commands.specs.Sites.{EndsSites, GetNoSites, MayGetSites, OutListsSites, SitesMayChange, StopsSites, done, has_sites, malformed, no_memory, refused, stopped, too_many_sections, too_many_symbols, unflowed, unlinked, unread, unwritten, without_names}
+use Rattle.command_base.proofs.Content.{get-insert_same, held_is, written_others}
+use Rattle.code_commands.proofs.SitesGets.{gets_excluded}
+use Rattle.command_base.proofs.Stops.{concluded_usage, done_not_refused, is_read, left, names_fault, names_left, names_no_usage, neither, not_memory, of_stop, one_text, read_no_usage, unreadable, write_fault, write_no_usage, write_not_refused, write_told}
+
+-- ---- what it leaves
+
+out_lists : (map : Map) (input output : List ℕ) (names : Option (List ℕ)) (o : Elf) (file : List ℕ) (before after : Option Content) → MayGetSites map before input names o file → after ≡ writing before output file → OutListsSites map input output before after
+out_lists map input output names o file None after may e = tt
+out_lists map input output names o file (Some held) after may e =
+    subst (λ (c : Option Content). OutListsSites map input output (Some held) c) (sym e) (record {
+      read = may.read;
+      held = held_is MAX_FILE_BYTES (get held input) may.read may.is_read.may;
+      object = o;
+      is_object = may.is;
+      written = file;
+      left = get-insert_same held output file;
+      lists = may.lists;
+    })
+
+pub sites_listed : (map : Map) (input output : List ℕ) (names : Option (List ℕ)) (before after : Outside) (out out' : Output) (x : Status) → EndsSites map input output names before after out out' x → x ≡ Done → OutListsSites map input output before.content after.content
+sites_listed map input output names before after out out' Done (done o file may e same) is = out_lists map input output names o file before.content after.content may e
+sites_listed map input output names before after out out' x (stopped s h t) is = absurd (concluded_not_done s out out' x t is)
+
+pub sites_silent : (map : Map) (input output : List ℕ) (names : Option (List ℕ)) (before after : Outside) (out out' : Output) (x : Status) → EndsSites map input output names before after out out' x → x ≡ Done → out'.written ≡ out.written
+sites_silent map input output names before after out out' Done (done o file may e same) is = ap (λ (u : Output). u.written) same
+sites_silent map input output names before after out out' x (stopped s h t) is = absurd (concluded_not_done s out out' x t is)
+
+stop_keeps : (s : CommandStop) (map : Map) (input output : List ℕ) (names : Option (List ℕ)) (before after : Outside) (out out' : Output) (x : Status) → StopsSites map input output names before after s → Concludes s out out' x → x ≢ FileFault → x ≢ NoMemory → after.content ≡ before.content
+stop_keeps s map input output names before after out out' x (unread h kept) t f m = kept
+stop_keeps s map input output names before after out out' x (without_names read may h kept) t f m = kept
+stop_keeps s map input output names before after out out' x (refused read is h kept) t f m = kept
+stop_keeps s map input output names before after out out' x (unwritten o file may h others) t f m = absurd (neither x (write_told s output before after out out' x h t) f m)
+
+pub sites_unchanged : (map : Map) (input output : List ℕ) (names : Option (List ℕ)) (before after : Outside) (out out' : Output) (x : Status) → EndsSites map input output names before after out out' x → x ≢ Done → x ≢ FileFault → x ≢ NoMemory → after.content ≡ before.content
+sites_unchanged map input output names before after out out' Done (done o file may e same) d f m = absurd (d refl)
+sites_unchanged map input output names before after out out' x (stopped s h t) d f m = stop_keeps s map input output names before after out out' x h t f m
+
+abbrev Left : Map → List ℕ → List ℕ → Option (List ℕ) → Outside → Outside → Type 0
+Left map input output names before after = (after.content ≡ before.content) ⊎ SitesMayChange map input output names before.content after.content
+
+stop_changes : (s : CommandStop) (map : Map) (input output : List ℕ) (names : Option (List ℕ)) (before after : Outside) → StopsSites map input output names before after s → Left map input output names before after
+stop_changes s map input output names before after (unread h kept) = inl kept
+stop_changes s map input output names before after (without_names read may h kept) = inl kept
+stop_changes s map input output names before after (refused read is h kept) = inl kept
+stop_changes s map input output names before after (unwritten o file may h others) = inr (record { object = o; written = file; may = may; others = others })
+
+pub sites_changes : (map : Map) (input output : List ℕ) (names : Option (List ℕ)) (before after : Outside) (out out' : Output) (x : Status) → EndsSites map input output names before after out out' x → Left map input output names before after
+sites_changes map input output names before after out out' Done (done o file may e same) = inr (record { object = o; written = file; may = may; others = written_others output file before.content after.content e })
+sites_changes map input output names before after out out' x (stopped s h t) = stop_changes s map input output names before after h
+
+-- ---- where IN gets site lists
+
+stop_left : OneOutcome → (s : CommandStop) (map : Map) (input output : List ℕ) (names : Option (List ℕ)) (read : List ℕ) (o : Elf) (lists : NameLists) (held : Content) (before after : Outside) (out out' : Output) (x : Status) → before.content ≡ Some held → reading held input MAX_FILE_BYTES ≡ Ok read → HasNames (Some held) names lists → IsObject read o → GetsSites (coded_by map o) → StopsSites map input output names before after s → Concludes s out out' x → IsAnswered x
+stop_left one s map input output names read o lists held before after out out' x c is has of gets (unread h kept) t = unread_left MAX_FILE_BYTES s input read held before after out out' x c is h t
+stop_left one s map input output names read o lists held before after out out' x c is has of gets (without_names other may h kept) t = names_left s names lists held before after out out' x c has h t
+stop_left one s map input output names read o lists held before after out out' x c is has of gets (refused other was h kept) t =
+    let same = one_text MAX_FILE_BYTES held input other read (is_read MAX_FILE_BYTES input other held before.content c was.may) is in
+    no_memory_left s out out' x (gets_excluded one s map read o of gets (subst (λ (b : List ℕ). GetNoSites map b s) same h)) t
+stop_left one s map input output names read o lists held before after out out' x c is has of gets (unwritten p file may h others) t = fault_left x (write_told s output before after out out' x h t)
+
+pub sites_left : OneOutcome → (map : Map) (input output : List ℕ) (names : Option (List ℕ)) (read : List ℕ) (o : Elf) (lists : NameLists) (held : Content) (before after : Outside) (out out' : Output) (x : Status) → before.content ≡ Some held → reading held input MAX_FILE_BYTES ≡ Ok read → HasNames (Some held) names lists → IsObject read o → GetsSites (coded_by map o) → EndsSites map input output names before after out out' x → IsAnswered x
+sites_left one map input output names read o lists held before after out out' Done c is has of gets (done p file may e same) = inl refl
+sites_left one map input output names read o lists held before after out out' x c is has of gets (stopped s h t) = stop_left one s map input output names read o lists held before after out out' x c is has of gets h t
+
+-- ---- where a step refuses
+
+sites_refuse : (s : CommandStop) (map : Map) (input output : List ℕ) (names : Option (List ℕ)) (held : Content) (before after : Outside) → before.content ≡ Some held → StopsSites map input output names before after s → status_of s ≡ Refused → RefusesSites map input names held s
+sites_refuse s map input output names held before after c (unread h kept) e = input_unread (unreadable MAX_FILE_BYTES s input held before after c h e)
+sites_refuse s map input output names held before after c (without_names read may h kept) e =
+    names_refuse (λ b l t. GetNoSites map b t) s input names held read before after c may h e
+sites_refuse s map input output names held before after c (refused read was h kept) e =
+    input_refused read was.lists (is_read MAX_FILE_BYTES input read held before.content c was.may) (named_in names held before.content was.lists c was.named) h (not_memory s e)
+sites_refuse s map input output names held before after c (unwritten o file may h others) e = absurd (write_not_refused s output before after h e)
+
+pub sites_told : (map : Map) (input output : List ℕ) (names : Option (List ℕ)) (held : Content) (before after : Outside) (out out' : Output) (x : Status) → before.content ≡ Some held → EndsSites map input output names before after out out' x → x ≡ Refused → Tells (RefusesSites map input names held) out.written out'.written
+sites_told map input output names held before after out out' Done c (done o file may e same) is = absurd (done_not_refused is)
+sites_told map input output names held before after out out' x c (stopped s h t) is =
+    of_stop (RefusesSites map input names held) s out out' x t is (λ at. sites_refuse s map input output names held before after c h at)
+
+refused_not_done : OneOutcome → (s : CommandStop) (map : Map) (input output : List ℕ) (names : Option (List ℕ)) (held : Content) (before after : Outside) (out out' : Output) (x : Status) → before.content ≡ Some held → RefusesSites map input names held s → EndsSites map input output names before after out out' x → x ≢ Done
+refused_not_done one s map input output names held before after out out' Done c why (done o file may e same) is =
+    unrefused (λ b l t. GetNoSites map b t) s input names held may.read may.is_read.lists (is_read MAX_FILE_BYTES input may.read held before.content c may.is_read.may) (named_in names held before.content may.is_read.lists c may.is_read.named)
+    (λ t no. gets_excluded one t map may.read o may.is may.gets no) why
+refused_not_done one s map input output names held before after out out' x c why (stopped told h t) is = concluded_not_done told out out' x t is
+
+-- ---- the other statuses
+
+not_warnings : Done ≢ Warnings
+not_warnings e = cc
+
+pub sites_no_warnings : (map : Map) (input output : List ℕ) (names : Option (List ℕ)) (before after : Outside) (out out' : Output) (x : Status) → EndsSites map input output names before after out out' x → x ≢ Warnings
+sites_no_warnings map input output names before after out out' Done (done o file may e same) is = not_warnings is
+sites_no_warnings map input output names before after out out' x (stopped s h t) is = concluded_no_warnings s out out' x t is
+
+gets_no_usage : (s : CommandStop) (map : Map) (bytes : List ℕ) → GetNoSites map bytes s → status_of s ≢ Usage
+gets_no_usage s map bytes (malformed fault) e = cc
+gets_no_usage s map bytes (unlinked o is some why worded) e = cc
+gets_no_usage s map bytes (unflowed o is some linked why) e = cc
+gets_no_usage s map bytes (has_sites o is order at) e = cc
+gets_no_usage s map bytes (too_many_sections o is order new many) e = cc
+gets_no_usage s map bytes (too_many_symbols o is order new few many count) e = cc
+gets_no_usage s map bytes no_memory e = cc
+
+stop_no_usage : (s : CommandStop) (map : Map) (input output : List ℕ) (names : Option (List ℕ)) (before after : Outside) → StopsSites map input output names before after s → status_of s ≢ Usage
+stop_no_usage s map input output names before after (unread h kept) e = read_no_usage MAX_FILE_BYTES s input before after h e
+stop_no_usage s map input output names before after (without_names read may h kept) e = names_no_usage s names before after h e
+stop_no_usage s map input output names before after (refused read was h kept) e = gets_no_usage s map read h e
+stop_no_usage s map input output names before after (unwritten o file may h others) e = write_no_usage s output before after h e
+
+not_usage : Done ≢ Usage
+not_usage e = cc
+
+pub sites_no_usage : (map : Map) (input output : List ℕ) (names : Option (List ℕ)) (before after : Outside) (out out' : Output) (x : Status) → EndsSites map input output names before after out out' x → x ≢ Usage
+sites_no_usage map input output names before after out out' Done (done o file may e same) is = not_usage is
+sites_no_usage map input output names before after out out' x (stopped s h t) is = stop_no_usage s map input output names before after h (concluded_usage s out out' x t is)
+
+pub sites_refused : OneOutcome → (map : Map) (input output : List ℕ) (names : Option (List ℕ)) (held : Content) (before after : Outside) (out out' : Output) (x : Status) (s : CommandStop) → EndsSites map input output names before after out out' x → before.content ≡ Some held → RefusesSites map input names held s → IsRefusedOrFails x
+sites_refused one map input output names held before after out out' x s ends c why =
+    left x (refused_not_done one s map input output names held before after out out' x c why ends) (sites_no_warnings map input output names before after out out' x ends) (sites_no_usage map input output names before after out out' x ends)
+
+-- ---- faults
+
+gets_no_fault : (s : CommandStop) (map : Map) (bytes : List ℕ) → GetNoSites map bytes s → status_of s ≢ FileFault
+gets_no_fault s map bytes (malformed fault) e = cc
+gets_no_fault s map bytes (unlinked o is some why worded) e = cc
+gets_no_fault s map bytes (unflowed o is some linked why) e = cc
+gets_no_fault s map bytes (has_sites o is order at) e = cc
+gets_no_fault s map bytes (too_many_sections o is order new many) e = cc
+gets_no_fault s map bytes (too_many_symbols o is order new few many count) e = cc
+gets_no_fault s map bytes no_memory e = cc
+
+stop_fault : (s : CommandStop) (map : Map) (input output : List ℕ) (names : Option (List ℕ)) (before after : Outside) → StopsSites map input output names before after s → status_of s ≡ FileFault → Rose before.faults after.faults
+stop_fault s map input output names before after (unread h kept) e = read_fault MAX_FILE_BYTES s input before after h e
+stop_fault s map input output names before after (without_names read may h kept) e = names_fault s names before after h e
+stop_fault s map input output names before after (refused read was h kept) e = absurd (gets_no_fault s map read h e)
+stop_fault s map input output names before after (unwritten o file may h others) e = write_fault s output before after h e
+
+not_file_fault : Done ≢ FileFault
+not_file_fault e = cc
+
+not_sink_fault : Done ≢ SinkFault
+not_sink_fault e = cc
+
+-- a fault of a file is answered only where its count rose
+pub sites_fault : (map : Map) (input output : List ℕ) (names : Option (List ℕ)) (before after : Outside) (out out' : Output) (x : Status) → EndsSites map input output names before after out out' x → x ≡ FileFault → Rose before.faults after.faults
+sites_fault map input output names before after out out' Done (done o file may e same) is = absurd (not_file_fault is)
+sites_fault map input output names before after out out' x (stopped s h t) is = stop_fault s map input output names before after h (concluded_fault s out out' x t is)
+
+-- and a fault of the output
+pub sites_sink_fault : (map : Map) (input output : List ℕ) (names : Option (List ℕ)) (before after : Outside) (out out' : Output) (x : Status) → EndsSites map input output names before after out out' x → x ≡ SinkFault → Rose out.faults out'.faults
+sites_sink_fault map input output names before after out out' Done (done o file may e same) is = absurd (not_sink_fault is)
+sites_sink_fault map input output names before after out out' x (stopped s h t) is = concluded_sink_fault s out out' x t is

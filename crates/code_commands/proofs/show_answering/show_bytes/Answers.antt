@@ -1,0 +1,14 @@
+use Rattle.std.proofs.Common.{subst, sym}
+use Rattle.code_commands.specs.Entry.{IsUncheckable, refused}
+use Rattle.code_commands.specs.Show.{stopped, unchecked}
+use Rattle.code_commands.proofs.EntryUncheckable.{no_object}
+use Rattle.code_commands.proofs.show_answering.show_bytes.Goals as goal
+
+pub returns-in-Ok-clause-ends : goal.returns-in-Ok-clause-ends
+returns-in-Ok-clause-ends g c before after read = c.show_object.ensures.ends before after read
+
+pub returns-in-Err-clause-ends : goal.returns-in-Err-clause-ends
+returns-in-Err-clause-ends g c before after read =
+    stopped c.parse_stop.result
+    (unchecked (refused c.args.bytes.now c.args.lists.now read (subst (IsUncheckable c.args.asked.map c.args.bytes.now) (sym c.parse_stop.ensures) (no_object c.args.asked.map c.args.bytes.now c.in-Err.fault c.in-Err.ensures.err))))
+    c.conclude.ensures.concluded

@@ -1,0 +1,12 @@
+-- Why `entry` is refused on files that hold this: what the first step finds that fails, in the order of the steps. Faults of files and
+-- of the output, and want of memory, are no refusals.
+use Rattle.std.specs.Prelude.{ℕ, List, Option}
+use Rattle.ot_files.specs.Content.{Content}
+use Rattle.x86_map.specs.declared.map.Map.{Map}
+use Rattle.command_base.specs.declared.stop.CommandStop.{CommandStop}
+use Rattle.command_base.specs.Inputs.{RefusesInput}
+use Rattle.code_commands.specs.Entry.{IsUncheckable}
+
+-- `entry IN`: IN is read; then the names file, where one is given, and its lines; then the bytes of IN are parsed, and their code is read.
+abbrev pub RefusesEntry : Map → List ℕ → Option (List ℕ) → Content → CommandStop → Type 0
+RefusesEntry map input names held = RefusesInput (λ read lists stop. IsUncheckable map read stop) input names held

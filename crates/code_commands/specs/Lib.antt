@@ -1,0 +1,7 @@
+pub mod Entry
+pub mod EntryRefused
+pub mod Show
+pub mod ShowRefused
+pub mod Sites
+pub mod SitesOrder
+pub mod SitesRefused
