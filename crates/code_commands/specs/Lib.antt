@@ -1,5 +1,6 @@
 pub mod Entry
 pub mod EntryRefused
+pub mod EntryWords
 pub mod Show
 pub mod ShowRefused
 pub mod Sites

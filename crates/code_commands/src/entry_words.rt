@@ -1,3 +1,7 @@
+ghost use Rattle.std.specs.Prelude.{◌≡◌};
+ghost use Rattle.code_commands.specs.EntryWords.{entry_options};
+
+use cli_words::EntryRules;
 use entry_rules::EntryOptions;
 use x86_map::Map;
 
@@ -12,4 +16,12 @@ pub struct EntryAsked<'a> {
     pub map: Map,
     /// The file of function names, where one is given.
     pub names: Option<&'a str>,
+}
+
+/// The entry rules that the words ask for.
+pub fn entry_options(rules: EntryRules) -> EntryOptions
+    ensures { result ≡ entry_options rules }
+{
+    let EntryRules { noinstr, sls, ibt } = rules;
+    EntryOptions { noinstr, sls, ibt }
 }

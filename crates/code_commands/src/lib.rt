@@ -18,7 +18,7 @@ mod sites_words;
 mod sites_writing;
 
 pub use entry_checking::entry;
-pub use entry_words::EntryAsked;
+pub use entry_words::{EntryAsked, entry_options};
 pub use show_telling::show;
 pub use show_words::ShowAsked;
 pub use sites_adding::sites;

@@ -20,7 +20,7 @@ use Rattle.object_law.proofs.Bodies.{IsAt, at_lies, before_other}
 use Rattle.object_law.proofs.Levels.{and_true}
 use Rattle.object_law.proofs.Overlays.{address_plain, plain_at}
 use Rattle.object_law.proofs.PointKinds.{PointIs, point_is}
-use Rattle.control_flow.proofs.Standing.{own_number, plain_is}
+use Rattle.point_edges.proofs.Standing.{own_number, plain_is}
 use Rattle.program_graph.specs.Tells.{previous_by}
 use Rattle.program_graph.specs.declared.parts.Previous.TheVariants.{Below}
 use Rattle.control_flow.specs.Rares.{IsRare}

@@ -9,9 +9,9 @@ use Rattle.flow_defs.specs.Owners.{owner_of_point}
 use Rattle.flow_defs.specs.Program.{entries_of}
 use Rattle.object_law.proofs.Numbers.{numbered}
 use Rattle.object_law.proofs.Owners.{arriving_owner, entry_is}
-use Rattle.control_flow.specs.Entered.{IsEnteredAt}
+use Rattle.point_edges.specs.Entered.{IsEnteredAt}
 use Rattle.control_flow.specs.Listed.{AreEntered, count_of}
-use Rattle.control_flow.proofs.Standing.{entry_listed_at, plain_stands}
+use Rattle.point_edges.proofs.Standing.{entry_listed_at, plain_stands}
 
 -- control that comes to an entry stands at its own point, among others
 entry_stands : (o : Coded) (entry : ℕ) → Contains (entries_of o) entry → IsEnteredAt o entry entry

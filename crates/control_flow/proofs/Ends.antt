@@ -18,7 +18,8 @@ use Rattle.flow_defs.specs.Faults.{is_no_end}
 use Rattle.object_points.proofs.TextsLemmas.{text_in, texts_ascend}
 use Rattle.object_points.proofs.Made.{kept_passes}
 use Rattle.control_flow.specs.Judged.{ends_text}
-use Rattle.control_flow.proofs.StartPlaces.{text_known, text_listed}
+use Rattle.point_edges.proofs.KnownTexts.{text_known}
+use Rattle.control_flow.proofs.StartPlaces.{text_listed}
 
 -- ---- whether one of a list passes
 none_of : {X : Type 0} (p : X → Bool) (xs : List X) → ((x : X) → In x xs → p x ≡ false) → list_any p xs ≡ false

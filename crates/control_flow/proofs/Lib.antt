@@ -1,4 +1,3 @@
-pub mod Standing
 pub mod Apart
 pub mod RightBefore
 mod Counted
@@ -12,7 +11,6 @@ pub mod InOrder
 pub mod Steps
 pub mod Gathered
 pub mod Listing
-pub mod Bytes
 pub mod Fields
 pub mod Callees
 pub mod Told

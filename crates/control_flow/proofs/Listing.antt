@@ -19,10 +19,10 @@ use Rattle.object_law.proofs.Numbers.{numbered}
 use Rattle.object_law.proofs.Owners.{from_map}
 use Rattle.object_points.specs.Places.{is_among}
 use Rattle.object_points.proofs.Starts.{no_entry, no_other_start}
-use Rattle.control_flow.specs.Entered.{IsEnteredAt}
+use Rattle.point_edges.specs.Entered.{IsEnteredAt}
 use Rattle.control_flow.specs.Entering.{AreListedTo, AreRight}
 use Rattle.control_flow.specs.Listed.{AreEntered, count_of}
-use Rattle.control_flow.proofs.Standing.{entry_listed_at, first_place, is_entered, plain_place}
+use Rattle.point_edges.proofs.Standing.{entry_listed_at, first_place, is_entered, plain_place}
 
 -- ---- an entry for some points
 -- it is listed for the first n of them, and the rest is as before

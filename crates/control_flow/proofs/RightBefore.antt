@@ -21,7 +21,7 @@ use Rattle.object_law.proofs.Levels.{and_true}
 use Rattle.object_points.proofs.Points.{listed_point}
 use Rattle.control_flow.specs.Gapless.{EndsAt, EndsThere, IsGapless, IsLastBefore}
 use Rattle.control_flow.proofs.Apart.{last_ends, none_ends, only_last}
-use Rattle.control_flow.proofs.Standing.{plain_is}
+use Rattle.point_edges.proofs.Standing.{plain_is}
 
 abbrev of_section : ℕ → SectionText → Bool
 of_section sec t = t.sec == sec

@@ -6,9 +6,9 @@ use Rattle.std.specs.List.Sorted.{IsStrictlySortedBy}
 use Rattle.std.specs.Ordering.{is_lt}
 use Rattle.std.specs.declared.cmp.Ordering.{Ordering}
 use Rattle.std.specs.declared.cmp.Ordering.TheVariants.{Less, Equal, Greater}
-use Rattle.std.proofs.lemmas.Bool.{cases_lt, false≢true}
+use Rattle.std.proofs.lemmas.Bool.{false≢true}
 use Rattle.std.proofs.lemmas.Bool.Decides.{nat_tests}
-use Rattle.std.proofs.lemmas.List.{get_or-map, get_or_default, get_or_past, length-map}
+use Rattle.std.proofs.lemmas.List.{get_or-map, get_or_default, length-map}
 use Rattle.std.proofs.lemmas.Map.Keys.{sorted_from_all_adjacent}
 use Rattle.ot_base.specs.declared.place.Place.{Place}
 use Rattle.ot_base.specs.Places.{same_place, place_cmp}
@@ -16,7 +16,7 @@ use Rattle.elf_objects.specs.declared.symbol.Home.{Home}
 use Rattle.elf_objects.specs.declared.symbol.Home.TheVariants as homes
 use Rattle.elf_objects.specs.Elf.{Elf}
 use Rattle.flow_defs.specs.Coded.{Coded}
-use Rattle.elf_objects.specs.Contents.{is_text, no_section, section_at, symbol_at}
+use Rattle.elf_objects.specs.Contents.{is_text, section_at, symbol_at}
 use Rattle.elf_objects.specs.File.{section_count}
 use Rattle.elf_objects.specs.Object.{IsObject}
 use Rattle.elf_objects.proofs.LeastBelow.{least_below-some, least_below-none}
@@ -37,6 +37,7 @@ use Rattle.flow_defs.specs.Sites.{places_of, places_of_text}
 use Rattle.object_points.proofs.TextsLemmas.{body_size, text_in}
 use Rattle.object_points.proofs.Made.{made_of_fewer}
 use Rattle.object_points.proofs.SitePlaces.{listed_place, places_sorted}
+use Rattle.point_edges.proofs.KnownTexts.{text_known}
 use Rattle.control_flow.proofs.FirstFaults.{first_made}
 
 lt_is : (r : Ordering) → is_lt r ≡ true → r ≡ Less
@@ -45,15 +46,6 @@ lt_is Equal h = absurd (false≢true h)
 lt_is Greater h = absurd (false≢true h)
 
 -- what a section with code has
-no_text : is_text no_section ≡ false
-no_text = refl
-
-pub text_known : (o : Elf) (i : ℕ) → is_text (section_at o i) ≡ true → i < length o.sections
-text_known o i text = elim (cases_lt i (length o.sections)) [
-  | inl inside ↦ inside
-  | inr past ↦ absurd (false≢true (sym no_text ∙ sym (ap is_text (get_or_past o.sections i no_section past)) ∙ text))
-]
-
 pub text_listed : (o : Coded) (i : ℕ) → is_text (section_at o.elf i) ≡ true → In (text_in o i) (texts_of o)
 unfolding texts_of
 text_listed o i text =

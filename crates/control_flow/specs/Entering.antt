@@ -4,7 +4,7 @@ use Rattle.flow_defs.specs.Coded.{Coded}
 use Rattle.flow_defs.specs.Code.{point_at}
 use Rattle.symbols_relocs.specs.declared.function.Function.{Function}
 use Rattle.symbols_relocs.specs.Lists.{function}
-use Rattle.control_flow.specs.Entered.{IsEnteredAt}
+use Rattle.point_edges.specs.Entered.{IsEnteredAt}
 use Rattle.control_flow.specs.Listed.{count_of}
 
 -- each entry that is listed for a point is one at which control comes to stand there

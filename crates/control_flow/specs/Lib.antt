@@ -1,4 +1,3 @@
-pub mod Entered
 pub mod Entering
 pub mod Few
 pub mod Found

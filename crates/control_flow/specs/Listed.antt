@@ -16,7 +16,7 @@ use Rattle.flow_defs.specs.Roles.{role_of}
 use Rattle.return_search.specs.declared.searched_flow.Exit.{Exit}
 use Rattle.return_search.specs.declared.searched_flow.Exit.TheVariants.{Calls}
 use Rattle.return_search.specs.Told.{exit_of}
-use Rattle.control_flow.specs.Entered.{IsEnteredAt}
+use Rattle.point_edges.specs.Entered.{IsEnteredAt}
 use Rattle.control_flow.specs.Lone.{HasEdgesOf}
 
 -- how many points an object has

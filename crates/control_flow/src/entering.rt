@@ -2,7 +2,7 @@
 
 ghost use Rattle.std.specs.Prelude.{◌≡◌, ◌<◌, ◌⊎◌, ℕ, Option, None, Some, All, Contains, IfOk, OnOk, length, replicate, slice_index_or};
 ghost use Rattle.flow_defs.specs.Code.{point_at};
-ghost use Rattle.control_flow.specs.Entered.{IsEnteredAt};
+ghost use Rattle.point_edges.specs.Entered.{IsEnteredAt};
 ghost use Rattle.control_flow.specs.Entering.{AreRight};
 ghost use Rattle.control_flow.specs.Listed.{AreEntered, count_of};
 

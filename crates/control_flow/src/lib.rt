@@ -2,7 +2,6 @@
 #![tactic(auto)]
 
 mod check;
-mod entered;
 mod entering;
 mod graph;
 mod hinted;
@@ -12,7 +11,6 @@ mod lists;
 mod lone_jumps;
 mod low;
 mod numbers;
-mod order;
 mod outgoing;
 mod parts;
 mod places;
@@ -25,7 +23,5 @@ mod symbol_names;
 mod transfers;
 
 pub use check::check_flow;
-pub use entered::entry_of_point;
 pub use graph::flow;
-pub use order::object_is_in_order;
 pub use preceding::previous;

@@ -15,11 +15,10 @@ use crate::hinted::{hinted_of, push_hinted};
 use crate::listed::count_points;
 use crate::low::point_is_low;
 use crate::numbers::number_of;
-use crate::order::object_is_in_order;
 use crate::preceding::{ends_at, previous};
 use object_points::{HintPoints, PointPlaces};
 use ot_base::NoMemory;
-use point_edges::FlowPoints;
+use point_edges::{FlowPoints, object_is_in_order};
 use program_graph::{Hinted, Previous, Rare, Replaced};
 use std::alloc::Global;
 

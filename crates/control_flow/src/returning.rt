@@ -10,11 +10,10 @@ ghost use Rattle.control_flow.specs.Returns.{AreReturns};
 
 use crate::entering::list_entered;
 use crate::listed::list_dead_ends;
-use crate::order::object_is_in_order;
 use crate::outgoing::EdgeList;
 use object_law::flow_laws::program_is_one;
 use ot_base::{Lists, NoMemory};
-use point_edges::FlowPoints;
+use point_edges::{FlowPoints, object_is_in_order};
 use return_search::{Exit, Flow, Returns, find_returns};
 use std::alloc::Global;
 

@@ -9,7 +9,7 @@ use Rattle.alternatives.specs.declared.texts.SectionText.{SectionText}
 use Rattle.flow_defs.specs.Code.{body_of, text_numbers, texts_of}
 use Rattle.flow_defs.specs.Coded.{Coded}
 use Rattle.unwinding_law.proofs.Lists.{from_filter}
-use Rattle.control_flow.proofs.StartPlaces.{text_known}
+use Rattle.point_edges.proofs.KnownTexts.{text_known}
 
 pub text_within : (o : Coded) (t : SectionText) (k : ℕ) → k < length (texts_of o) → get_or (texts_of o) k t ≡ t → t.sec < length o.elf.sections
 unfolding texts_of

@@ -9,7 +9,7 @@ use Rattle.ot_base.specs.declared.warning.Warning.{Warning}
 use Rattle.flow_defs.specs.Coded.{Coded}
 use Rattle.flow_defs.specs.Program.{graph_of, program_of, returning_graph}
 use Rattle.machine_defs.specs.Program.{entry_points}
-use Rattle.control_flow.specs.Entered.{IsEnteredAt}
+use Rattle.point_edges.specs.Entered.{IsEnteredAt}
 use Rattle.object_points.specs.Places.{is_among}
 use Rattle.stack_rules.specs.Gains.{Gains}
 use Rattle.stack_rules.proofs.GainsLemmas.{gains_none, gains_same}

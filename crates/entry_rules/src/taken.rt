@@ -13,11 +13,11 @@ ghost use Rattle.entry_rules.specs.PointWarns.{PointIsTaken, TakenWarns};
 ghost use Rattle.entry_rules.specs.Taken.{taken_places};
 
 use crate::listing::push_if;
-use control_flow::entry_of_point;
 use object_points::{PlaceSet, PointPlaces};
 use operation_defs::Op;
 use ot_base::rules::TAKEN_WITHOUT_ENDBR;
 use ot_base::{NoMemory, Warning};
+use point_edges::entry_of_point;
 use program_graph::Graph;
 
 /// Whether an operation is an ENDBR.

@@ -15,7 +15,8 @@ use Rattle.objtool_cli.specs.Promises.{InKeepsPromises}
 use Rattle.objtool_cli.specs.Unwinding.{OutUnwinds}
 use Rattle.cli_words.specs.Grammar.{Command, cfa, cfi, check, demo, dump, entry, explain, find, help, list, merge, show, sites, unwind, version}
 use Rattle.cli_words.specs.declared.options.CheckOptions.{CheckOptions}
-use Rattle.objtool_cli.specs.Words.{Meaning, entry_options, is_silent}
+use Rattle.code_commands.specs.EntryWords.{entry_options}
+use Rattle.objtool_cli.specs.Words.{Meaning, is_silent}
 use Rattle.code_commands.proofs.EntryLaws.{entry_silent, entry_warned}
 use Rattle.command_base.proofs.UnwindLaws.{unwind_no_warnings}
 use Rattle.command_base.proofs.DumpLaws.{dump_no_warnings}

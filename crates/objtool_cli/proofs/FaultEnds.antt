@@ -15,7 +15,8 @@ use Rattle.objtool_cli.specs.Command.{Ends, EndsAs, EndsCheck, Stops, done, ende
 use Rattle.ot_base.specs.NameLists.{NameLists}
 use Rattle.cli_words.specs.declared.options.CheckOptions.{CheckOptions}
 use Rattle.cli_words.specs.Grammar.{Command, cfa, cfi, check, demo, dump, entry, explain, find, help, list, merge, show, sites, unwind, version}
-use Rattle.objtool_cli.specs.Words.{Meaning, entry_options}
+use Rattle.code_commands.specs.EntryWords.{entry_options}
+use Rattle.objtool_cli.specs.Words.{Meaning}
 use Rattle.code_commands.proofs.EntryLaws.{entry_fault, entry_sink_fault}
 use Rattle.command_base.proofs.UnwindLaws.{unwind_fault, unwind_sink_fault}
 use Rattle.command_base.proofs.DumpLaws.{dump_fault, dump_sink_fault}

@@ -11,7 +11,8 @@ use Rattle.command_base.proofs.ConcludeLemmas.{concluded_no_memory}
 use Rattle.elf_objects.specs.declared.TheConstants.{MAX_FILE_BYTES}
 use Rattle.objtool_cli.specs.Command.{Ends}
 use Rattle.cli_words.specs.Grammar.{cfa, cfi, dump, entry, find, list, merge, show, sites, unwind}
-use Rattle.objtool_cli.specs.Words.{Meaning, entry_options}
+use Rattle.code_commands.specs.EntryWords.{entry_options}
+use Rattle.objtool_cli.specs.Words.{Meaning}
 use Rattle.cli_words.specs.declared.options.EntryRules.{EntryRules}
 use Rattle.command_base.specs.Code.{IsInOrder}
 use Rattle.code_commands.specs.Entry.{BreaksEntryRule, IsUnbroken}

@@ -25,7 +25,8 @@ use Rattle.command_base.specs.Refusing.{IsRefusedOrFails, Tells}
 use Rattle.command_base.specs.Inputs.{input_refused, input_unread}
 use Rattle.objtool_cli.specs.Refused.{IsRefused, RefusesAs, RefusesCheck, RefusesDemo, RefusesDump, RefusesUnwind, TellsRefusal, image_unread, object_unread, tables_unread, without_rows, without_walk}
 use Rattle.objtool_cli.specs.Summary.{IsOrFails, SumsUp, demo_bytes, demo_title}
-use Rattle.objtool_cli.specs.Words.{Meaning, entry_options}
+use Rattle.code_commands.specs.EntryWords.{entry_options}
+use Rattle.objtool_cli.specs.Words.{Meaning}
 use Rattle.code_commands.proofs.EntryLaws.{entry_refused, entry_told}
 use Rattle.command_base.proofs.ListLaws.{list_refused, list_told}
 use Rattle.code_commands.proofs.SitesLaws.{sites_refused, sites_told}

@@ -21,12 +21,12 @@ use Rattle.objtool_cli.specs.Summary as sums
 use Rattle.objtool_cli.specs.Summary.{SumsUp, no_options}
 use Rattle.command_base.specs.Writing.{StopsAtWrite}
 use Rattle.cli_words.specs.declared.options.CheckOptions.{CheckOptions}
-use Rattle.objtool_cli.specs.Words.{Meaning, entry_options}
+use Rattle.objtool_cli.specs.Words.{Meaning}
 use Rattle.cli_words.specs.Grammar.{Command, cfa, cfi, check, demo, dump, entry, explain, find, help, list, merge, show, sites, unwind, version}
 use Rattle.command_base.proofs.ListLaws.{list_no_usage}
 use Rattle.code_commands.proofs.SitesLaws.{sites_no_usage}
 use Rattle.command_base.proofs.CfaLaws.{cfa_no_usage}
-use Rattle.entry_rules.specs.declared.options.EntryOptions.{EntryOptions}
+use Rattle.code_commands.specs.EntryWords.{EntryOptions, entry_options}
 use Rattle.code_commands.specs.Entry as entering
 use Rattle.code_commands.specs.Entry.{EndsEntry, IsUncheckable, StopsEntry}
 use Rattle.objtool_cli.specs.Cfi as framing

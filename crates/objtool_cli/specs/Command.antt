@@ -28,7 +28,8 @@ use Rattle.ot_base.specs.declared.warning.Warning.{Warning}
 use Rattle.command_base.specs.Names.{StopsAtNames}
 use Rattle.objtool_cli.specs.Summary.{PrintsWarningsOf, SumsUp, demo_bytes, demo_title}
 use Rattle.cli_words.specs.declared.options.EntryRules.{EntryRules}
-use Rattle.objtool_cli.specs.Words.{Meaning, entry_options, explained}
+use Rattle.code_commands.specs.EntryWords.{entry_options}
+use Rattle.objtool_cli.specs.Words.{Meaning, explained}
 use Rattle.command_base.specs.Writing.{StopsAtWrite}
 use Rattle.code_commands.specs.Sites.{EndsSites, SitesMayChange}
 use Rattle.command_base.specs.List.{EndsList}

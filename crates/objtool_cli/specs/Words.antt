@@ -2,8 +2,6 @@
 use Rattle.std.specs.Prelude.{ℕ, Bool, true, false, List, [], Option, Some, None, Result}
 use Rattle.cli_words.specs.declared.fault.UsageKind.{UsageKind}
 use Rattle.cli_words.specs.Grammar.{Command, cfi, check, entry, explain, help, merge, sites, version}
-use Rattle.cli_words.specs.declared.options.EntryRules.{EntryRules}
-use Rattle.entry_rules.specs.declared.options.EntryOptions.{EntryOptions}
 use Rattle.cli_matches.specs.Texts.{help_text, version_text}
 use Rattle.explanations.specs.Topics.{explanation_of, topics_text}
 
@@ -43,7 +41,3 @@ is_silent (entry input rules map names) = true
 is_silent (cfi input output map names) = true
 is_silent (merge layout output) = true
 is_silent _ = false
-
--- the entry rules that the words ask for
-abbrev pub entry_options : EntryRules → EntryOptions
-entry_options rules = record { noinstr = rules.noinstr; sls = rules.sls; ibt = rules.ibt }

@@ -41,7 +41,8 @@ ghost use Rattle.cli_words.specs.Grammar.{Command as Meant, cfa, cfi, check, com
 ghost use Rattle.ot_base.specs.NameLists.{NameLists};
 ghost use Rattle.cli_words.specs.declared.options.CheckOptions.{CheckOptions};
 ghost use Rattle.command_base.specs.Names.{HasNames};
-ghost use Rattle.objtool_cli.specs.Words.{entry_options, explained, is_silent, is_told, told_text};
+ghost use Rattle.code_commands.specs.EntryWords.{entry_options};
+ghost use Rattle.objtool_cli.specs.Words.{explained, is_silent, is_told, told_text};
 ghost use Rattle.objtool_cli.specs.Summary.{SumsUp, demo_bytes, demo_title};
 ghost use Rattle.objtool_cli.specs.Promises.{InKeepsPromises};
 ghost use Rattle.command_base.specs.Refusing.{IsRefusedOrFails};
@@ -56,14 +57,13 @@ use crate::frames_adding::cfi;
 use crate::frames_words::CfiAsked;
 use crate::words::Check;
 use cli_matches::{help_text, read_words, version_text};
-use cli_words::{Command, EntryRules, UsageFault};
-use code_commands::{EntryAsked, ShowAsked, SitesAsked, entry, show, sites};
+use cli_words::{Command, UsageFault};
+use code_commands::{EntryAsked, ShowAsked, SitesAsked, entry, entry_options, show, sites};
 use command_base::{
     CommandStop, MAX_IMAGE_BYTES, Status, Usage, cfa, conclude, dump, find, list, merge,
     print_line, read_file, read_names, unwind,
 };
 use elf_objects::MAX_FILE_BYTES;
-use entry_rules::EntryOptions;
 use explanations::{explanation, topics};
 use ot_files::{Files, Sink};
 use std::alloc::Global;
@@ -125,14 +125,6 @@ fn explained(topic: Option<&str>) -> &'static str
         Some(topic) => explanation(topic).unwrap_or(""),
         None => topics(),
     }
-}
-
-/// The entry rules that the words ask for.
-fn entry_options(rules: EntryRules) -> EntryOptions
-    ensures { result ≡ entry_options rules }
-{
-    let EntryRules { noinstr, sls, ibt } = rules;
-    EntryOptions { noinstr, sls, ibt }
 }
 
 /// Runs a command. The number of `demo` is one from 0 to 100,000, as the words of each are read.

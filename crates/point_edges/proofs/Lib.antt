@@ -10,3 +10,6 @@ mod Within
 mod Entries
 mod MarksWithin
 mod Parts
+pub mod Standing
+pub mod Bytes
+pub mod KnownTexts

@@ -3,3 +3,4 @@ pub mod Jumps
 pub mod Entries
 pub mod Straight
 pub mod Tables
+pub mod Entered

@@ -4,8 +4,8 @@ use Rattle.std.proofs.lemmas.List.{get_or_default}
 use Rattle.flow_defs.specs.Coded.{Coded}
 use Rattle.program_graph.specs.declared.parts.GraphPoint.{GraphPoint}
 use Rattle.program_graph.specs.declared.parts.PointKind.{PointKind}
-use Rattle.control_flow.specs.Entered.{IsEnteredAt}
-use Rattle.control_flow.proofs.Standing.{program_enters}
+use Rattle.point_edges.specs.Entered.{IsEnteredAt}
+use Rattle.point_edges.proofs.Standing.{program_enters}
 use Rattle.control_flow.specs.Listed.{count_of}
 use Rattle.control_flow.specs.Numbers.{IsNumbered}
 use Rattle.control_flow.specs.Points.{AreMade}

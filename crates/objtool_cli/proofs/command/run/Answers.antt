@@ -5,7 +5,7 @@ use Rattle.objtool_cli.proofs.FaultEnds.{file_fault, sink_fault}
 use Rattle.objtool_cli.proofs.ReadBackEnds.{cfa_answered, cfi_answered, cfi_broken, dump_answered, entry_answered, entry_broken, find_answered, list_answered, merge_answered, rows_dumped, show_answered, sites_answered, unwind_answered, walk_printed}
 use Rattle.objtool_cli.proofs.SameCommand.{done_as}
 use Rattle.cli_words.specs.Grammar.{cfa, cfi, entry, find, list, merge, show, sites}
-use Rattle.objtool_cli.specs.Words.{entry_options}
+use Rattle.code_commands.specs.EntryWords.{entry_options}
 use Rattle.code_commands.proofs.EntryLaws.{entry_keeps}
 use Rattle.command_base.proofs.ListLaws.{listed_file}
 use Rattle.code_commands.proofs.SitesLaws.{sites_listed}

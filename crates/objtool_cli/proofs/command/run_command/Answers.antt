@@ -2,7 +2,7 @@ use Rattle.std.proofs.Common.{◌≡◌, ℕ, List, Option, refl, sym, ap, ◌�
 use Rattle.x86_map.specs.declared.map.Map.{Map}
 use Rattle.cli_words.specs.Grammar.{cfa, cfi, command_in, dump, entry, explain, find, help, list, merge, show, sites, unwind, version}
 use Rattle.cli_words.specs.declared.options.EntryRules.{EntryRules}
-use Rattle.entry_rules.specs.declared.options.EntryOptions.{EntryOptions}
+use Rattle.code_commands.specs.EntryWords.{EntryOptions}
 use Rattle.code_commands.specs.Entry.{EndsEntry}
 use Rattle.command_base.specs.declared.status.Status.{Status}
 use Rattle.command_base.specs.Outside.{Outside, Output}

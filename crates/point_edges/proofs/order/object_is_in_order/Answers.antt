@@ -2,8 +2,8 @@ use Rattle.std.proofs.Common.{◌≡◌, ◌<◌, ℕ, List, All, ap, ◌∙◌,
 use Rattle.elf_objects.specs.Elf.{Elf}
 use Rattle.flow_defs.specs.Coded.{Coded}
 use Rattle.elf_objects.specs.Object.{IsObject}
-use Rattle.control_flow.proofs.Bytes.{has_bytes}
-use Rattle.control_flow.proofs.order.object_is_in_order.Goals as goal
+use Rattle.point_edges.proofs.Bytes.{has_bytes}
+use Rattle.point_edges.proofs.order.object_is_in_order.Goals as goal
 
 pub returns : goal.returns
 returns c =

@@ -7,7 +7,7 @@ ghost use Rattle.machine_defs.specs.Kept.{is_at_entry};
 ghost use Rattle.flow_defs.specs.Arrival.{arrive};
 ghost use Rattle.flow_defs.specs.Code.{points_of_object};
 ghost use Rattle.flow_defs.specs.Program.{program_of};
-ghost use Rattle.control_flow.specs.Entered.{IsEnteredAt};
+ghost use Rattle.point_edges.specs.Entered.{IsEnteredAt};
 
 use alternatives::Point;
 use object_points::PointPlaces;

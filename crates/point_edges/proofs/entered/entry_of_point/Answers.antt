@@ -1,6 +1,6 @@
 use Rattle.std.proofs.Common.{None, sym, ◌∙◌}
-use Rattle.control_flow.proofs.Standing.{enters_nowhere, enters_place, enters_there, program_enters}
-use Rattle.control_flow.proofs.entered.entry_of_point.Goals as goal
+use Rattle.point_edges.proofs.Standing.{enters_nowhere, enters_place, enters_there, program_enters}
+use Rattle.point_edges.proofs.entered.entry_of_point.Goals as goal
 
 pub returns-in_err-place-clause-is : goal.returns-in_err-place-clause-is
 returns-in_err-place-clause-is c =

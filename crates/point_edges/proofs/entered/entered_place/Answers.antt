@@ -13,8 +13,8 @@ use Rattle.table_law.proofs.Lists.{some_is}
 use Rattle.flow_defs.specs.Arrival.{arrive}
 use Rattle.flow_defs.specs.Code.{alternatives_of, point_at, texts_of}
 use Rattle.object_points.proofs.Points.{numbered_point}
-use Rattle.control_flow.proofs.Standing.{first_place, first_stands, plain_place, plain_stands}
-use Rattle.control_flow.proofs.entered.entered_place.Goals as goal
+use Rattle.point_edges.proofs.Standing.{first_place, first_stands, plain_place, plain_stands}
+use Rattle.point_edges.proofs.entered.entered_place.Goals as goal
 
 pub returns-then-point-eq0 : goal.returns-then-point-eq0
 returns-then-point-eq0 c = λ place.

@@ -28,7 +28,7 @@ use Rattle.object_law.proofs.Numbers.{numbered}
 use Rattle.object_law.proofs.Owners.{from_map}
 use Rattle.object_points.proofs.Points.{numbered_point}
 use Rattle.point_edges.proofs.Points.{number_is}
-use Rattle.control_flow.specs.Entered.{IsEnteredAt}
+use Rattle.point_edges.specs.Entered.{IsEnteredAt}
 
 -- the number of the point with a number
 pub own_number : (o : Coded) (n : ℕ) → n < length (points_of_object o) → number_of o (point_at o n) ≡ Some n
