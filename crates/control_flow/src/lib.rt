@@ -24,4 +24,5 @@ mod transfers;
 
 pub use check::check_flow;
 pub use graph::flow;
+pub use point_edges::object_is_in_order;
 pub use preceding::previous;

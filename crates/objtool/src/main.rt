@@ -4,7 +4,7 @@
 mod last_line;
 
 ghost use Rattle.std.specs.Prelude.{◌≡◌};
-ghost use Rattle.command_base.specs.Status.{exit_code};
+ghost use Rattle.objtool_cli.specs.Status.{exit_code};
 
 use crate::last_line::LastLine;
 use advice::{refusal_line, usage_line};
