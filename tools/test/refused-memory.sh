@@ -174,7 +174,6 @@ printf 'file table.o\nplace 1 1000\nfile none.o\nplace 1 2000\n' >lacking_layout
 printf 'file table.o\nplace 1 1000\nfile ended.checked.o\nplace 1 1001\n' >crowded_layout
 "$program" merge layout merged || failed "a table isn't merged"
 head -c 40 merged >cut_table
-cp straight.o itself.o
 
 # The worked objects that together come to every request of `check`, with their tables and an image for each: at the first
 # instruction, unless the walk is longer from another one.
@@ -269,46 +268,8 @@ commands=(
     "${worked[@]}"
 )
 
-# run REFUSED ONWARDS: the text that the command tells, and its status.
-run() {
-    told=$(REFUSED=$1 ONWARDS=$2 LD_PRELOAD=$scratch/refuse.so "$program" "${words[@]}"; printf .%d $?)
-    status=${told##*.}
-    told=${told%.*}
-}
-touch -d '1 hour ago' itself.o
-touch stamp
-total=0
-for command in "${commands[@]}"; do
-    read -ra words <<<"$command"
-    wanted=${words[0]}
-    words=("${words[@]:1}")
-    name=${words[*]:-no words}
-    COUNT=$scratch/count run 0 ""
-    rm -f out
-    text=$told
-    [ "$status" = "$wanted" ] || failed "$name ends with status $status, not $wanted"
-    count=$(<count)
-    [ "$count" -gt 3 ] || failed "$name: $count requests"
-    [ "$name" != "check itself.o itself.o" ] || { cp straight.o itself.o; touch -d '1 hour ago' itself.o; }
-    for ((number = 1; number <= count; number++)); do
-        for onwards in "" onwards; do
-            run "$number" "$onwards"
-            if [ "$status" = 6 ]; then
-                [[ $text == "$told"* ]] || failed "$name, request $number $onwards: told '$told'"
-                [ ! -e out ] && [ ! itself.o -nt stamp ] || failed "$name, request $number $onwards: OUT was written"
-            else
-                # (the first request is for the words, which no command can do without)
-                [ "$number$onwards" != 1onwards ] && [ "$status" = "$wanted" ] && [ "$told" = "$text" ] || failed "$name, request $number $onwards: status $status, told '$told'"
-                rm -f out
-                [ ! itself.o -nt stamp ] || { cp straight.o itself.o; touch -d '1 hour ago' itself.o; }
-            fi
-        done
-    done
-    [ -z "$(compgen -G '.objtool-*')" ] || failed "$name: a file is left"
-    echo "refused memory: $name: each of $count requests refused in turn"
-    total=$((total + count))
-done
-echo "refused memory: $total requests of ${#commands[@]} commands"
+printf '%s\n' "${commands[@]}" >commands
+python3 "$here/refused-memory/refused.py" "$program" "$scratch/refuse.so" "$scratch" <commands
 
 # count WORD..: how many requests a program makes, which has to end with status 0 and print the line of `demo 3`.
 count() {
