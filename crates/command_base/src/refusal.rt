@@ -7,7 +7,7 @@ use orc_merge::{LayoutFault, MergeFault, TableFault};
 use orc_walk::{ImageFault, PlaceFault};
 use ot_base::{Escaped, ListsFault};
 use site_lists::SitesFault;
-use std::fmt;
+use std::fmt::{self, Display};
 
 /// Why an input is refused.
 #[derive(Clone, Copy)]
@@ -52,34 +52,38 @@ pub enum Refusal<'a> {
     NoFunction { name: &'a str },
 }
 
-impl fmt::Display for Refusal<'_> {
+impl Display for Refusal<'_> {
     ghost use Rattle.std.specs.Prelude.{Some};
     ghost use Rattle.command_base.specs.Refusal.{refusal_text};
 
     ghost output = { λ r. Some (refusal_text r) };
 
     fn fmt<W: fmt::Write>(&self, f: &mut fmt::Formatter<W>) -> fmt::Result {
-        match *self {
-            Refusal::Malformed(fault) => write!(f, "{fault}"),
-            Refusal::Orc(fault) => write!(f, "{fault}"),
-            Refusal::Lists(fault) => write!(f, "{fault}"),
-            Refusal::Image(fault) => write!(f, "{fault}"),
+        match self {
+            Refusal::Malformed(fault) => fault.fmt(f),
+            Refusal::Orc(fault) => fault.fmt(f),
+            Refusal::Lists(fault) => fault.fmt(f),
+            Refusal::Image(fault) => fault.fmt(f),
             Refusal::NoText { sec } => write!(f, "section {sec}: no text"),
-            Refusal::Unplaced(fault) => write!(f, "{fault}"),
-            Refusal::Unlinked(fault) => write!(f, "{fault}"),
-            Refusal::Unflowed(fault) => write!(f, "{fault}"),
+            Refusal::Unplaced(fault) => fault.fmt(f),
+            Refusal::Unlinked(fault) => fault.fmt(f),
+            Refusal::Unflowed(fault) => fault.fmt(f),
             Refusal::HasOrc { sec } => write!(f, "section {sec} is an ORC section"),
             Refusal::HasSites { sec } => write!(f, "section {sec} is a site list"),
-            Refusal::Sites(fault) => write!(f, "{fault}"),
+            Refusal::Sites(fault) => fault.fmt(f),
             Refusal::HasFrames { sec } => write!(f, "section {sec} is a frame section"),
-            Refusal::Frames(fault) => write!(f, "{fault}"),
+            Refusal::Frames(fault) => fault.fmt(f),
             Refusal::TooMany { what, count } => {
-                write!(f, "{}", ElfFault::TooMany { what, count })
+                ElfFault::TooMany {
+                    what: *what,
+                    count: *count,
+                }
+                .fmt(f)
             }
-            Refusal::Layout(fault) => write!(f, "{fault}"),
+            Refusal::Layout(fault) => fault.fmt(f),
             Refusal::TooManyFiles { count } => write!(f, "too many files: {count}"),
-            Refusal::Merge(fault) => write!(f, "{fault}"),
-            Refusal::Table(fault) => write!(f, "{fault}"),
+            Refusal::Merge(fault) => fault.fmt(f),
+            Refusal::Table(fault) => fault.fmt(f),
             Refusal::NoFunction { name } => {
                 let name = Escaped(name.as_bytes());
                 write!(f, "no function {name}")

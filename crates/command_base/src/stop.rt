@@ -124,7 +124,7 @@ impl fmt::Display for CommandStop<'_> {
     ghost output = { λ s. Some (line_of s) };
 
     fn fmt<W: fmt::Write>(&self, f: &mut fmt::Formatter<W>) -> fmt::Result {
-        match *self {
+        match self {
             CommandStop::Usage(usage) => write!(f, "usage: {usage}\n"),
             CommandStop::Missing { file } => {
                 let file = Escaped(file.as_bytes());
@@ -132,7 +132,7 @@ impl fmt::Display for CommandStop<'_> {
             }
             CommandStop::TooLong { file, limit } => {
                 let file = Escaped(file.as_bytes());
-                write!(f, "refused: {}\n", Longer { file, limit })
+                write!(f, "refused: {}\n", Longer { file, limit: *limit })
             }
             CommandStop::Refused(refusal) => write!(f, "refused: {refusal}\n"),
             CommandStop::PartMissing { part, file } => {
@@ -141,7 +141,7 @@ impl fmt::Display for CommandStop<'_> {
             }
             CommandStop::PartTooLong { part, file, limit } => {
                 let file = Escaped(file.as_bytes());
-                write!(f, "refused: file {part}: {}\n", Longer { file, limit })
+                write!(f, "refused: file {part}: {}\n", Longer { file, limit: *limit })
             }
             CommandStop::PartRefused { part, refusal } => {
                 write!(f, "refused: file {part}: {refusal}\n")

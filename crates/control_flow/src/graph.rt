@@ -11,19 +11,9 @@ use crate::parts::parts_of;
 use flow_defs::FlowFault;
 use object_points::{Linked, PointPlaces};
 use ot_base::{Lists, NoMemory};
-use point_edges::{FlowPoints, PointArrivals};
+use point_edges::FlowPoints;
 use program_graph::{Graph, GraphParts};
 use std::alloc::Global;
-
-/// The points of an object with all that is looked up to find where they go.
-fn flow_points<'l, 'o, 'a>(
-    alloc: Global,
-    places: PointPlaces<'l, 'o, 'a>,
-) -> Result<FlowPoints<'l, 'o, 'a>, NoMemory>
-    ensures { IfOk result (λ points. points ≡ places.entry) }
-{
-    FlowPoints::build(alloc, PointArrivals::build(alloc, places)?)
-}
 
 /// The parts of the graph of the points of an object, which are given back.
 fn parts_of_places(
@@ -34,7 +24,7 @@ fn parts_of_places(
     ensures tells { IfOk result (Tells (program_of places.entry lists.now)) }
     ensures shape { IfOk result HaveShape }
 {
-    let points = flow_points(alloc, places)?;
+    let points = FlowPoints::build(alloc, places)?;
     parts_of(alloc, &points, lists)
 }
 

@@ -7,7 +7,7 @@ ghost use Rattle.flow_defs.specs.Code.{point_at, points_of_object};
 ghost use Rattle.flow_defs.specs.Edges.{fixups as fixups_of, is_some_place, static_targets as static_targets_of};
 ghost use Rattle.object_points.specs.Places.{HaveSamePlaces};
 ghost use Rattle.point_arrivals.specs.Kinds.{kind_of};
-ghost use Rattle.point_arrivals.specs.Lists.{told_places_of};
+ghost use Rattle.point_arrivals.specs.Lists.{AreListsOf, told_places_of};
 ghost use Rattle.point_arrivals.specs.Marks.{is_listed as is_listed_point};
 ghost use Rattle.point_arrivals.specs.Straight.{ends_at_next as ends_at_next_point};
 
@@ -53,6 +53,27 @@ impl<'l, 'o, 'a> Model for PointLists<'l, 'o, 'a> {
     ghost invariant = { λ a. AreLow a.places × AreListsOf a.places a.originals a.reachable a.unreachable a.intra_calls a.branches a.fixes a.rooms.items };
 }
 
+/// All lists of places of an object.
+#[derive(Drop)]
+struct Listed {
+    places: ListedPlaces,
+    pairs: ListedPairs,
+    /// The owners that make room, ascending.
+    rooms: Vec<u32>,
+}
+
+/// All lists of places of an object.
+fn list_all(alloc: Global, places: &PointPlaces<'_, '_, '_>) -> Result<Listed, NoMemory>
+    ensures { IfOk result (λ l. AreListsOf places.now l.places.originals l.places.reachable l.places.unreachable l.places.intra_calls l.pairs.branches l.pairs.fixes l.rooms.items) }
+{
+    let special = places.linked().special();
+    Ok(Listed {
+        places: list_places(alloc, special)?,
+        pairs: list_pairs(alloc, special)?,
+        rooms: list_rooms(alloc, places)?,
+    })
+}
+
 impl<'l, 'o, 'a> PointLists<'l, 'o, 'a> {
     /// The points of an object, with its lists.
     pub(crate) fn build(
@@ -62,15 +83,17 @@ impl<'l, 'o, 'a> PointLists<'l, 'o, 'a> {
         ensures { IfOk result (λ lists. lists ≡ places.entry) }
     {
         points_are_low(places.linked());
-        let special = places.linked().special();
-        let ListedPlaces {
-            originals,
-            reachable,
-            unreachable,
-            intra_calls,
-        } = list_places(alloc, special)?;
-        let ListedPairs { branches, fixes } = list_pairs(alloc, special)?;
-        let rooms = list_rooms(alloc, &places)?;
+        let Listed {
+            places:
+                ListedPlaces {
+                    originals,
+                    reachable,
+                    unreachable,
+                    intra_calls,
+                },
+            pairs: ListedPairs { branches, fixes },
+            rooms,
+        } = list_all(alloc, &places)?;
         Ok(PointLists {
             places,
             originals,

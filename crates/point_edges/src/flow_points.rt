@@ -7,11 +7,11 @@ ghost use Rattle.flow_defs.specs.Code.{point_at, points_of_object};
 ghost use Rattle.flow_defs.specs.Roles.{table_of_point};
 ghost use Rattle.flow_defs.specs.Targets.{destination_of};
 ghost use Rattle.point_arrivals.specs.Remade.{is_by_thunk as is_by_a_thunk, may_go_by_table as may_go_by_a_table};
-ghost use Rattle.point_edges.specs.Tables.{table_start_of};
+ghost use Rattle.point_edges.specs.Tables.{AreTablesOf, table_start_of};
 
 use flow_defs::Destination;
 use jump_tables::JumpTables;
-use object_points::PointPlaces;
+use object_points::{Linked, PointPlaces};
 use operation_defs::Op;
 use ot_base::{NoMemory, Place};
 use point_arrivals::PointArrivals;
@@ -44,12 +44,12 @@ impl<'l, 'o, 'a> FlowPoints<'l, 'o, 'a> {
     /// [`NoMemory`] may come at any object.
     pub fn build(
         alloc: Global,
-        arrivals: PointArrivals<'l, 'o, 'a>,
+        places: PointPlaces<'l, 'o, 'a>,
     ) -> Result<FlowPoints<'l, 'o, 'a>, NoMemory>
-        ensures { IfOk result (λ points. points ≡ arrivals.entry) }
+        ensures { IfOk result (λ points. points ≡ places.entry) }
     {
-        let linked = arrivals.places().linked();
-        let tables = JumpTables::build(alloc, linked.index(), linked.texts(), linked.sites())?;
+        let tables = tables_of(alloc, places.linked())?;
+        let arrivals = PointArrivals::build(alloc, places)?;
         Ok(FlowPoints { arrivals, tables })
     }
 
@@ -100,6 +100,13 @@ impl<'l, 'o, 'a> FlowPoints<'l, 'o, 'a> {
     {
         self.tables.start_of(self.places().point(n))
     }
+}
+
+/// The jump tables of an object.
+fn tables_of(alloc: Global, linked: &Linked<'_, '_>) -> Result<JumpTables, NoMemory>
+    ensures { IfOk result (AreTablesOf linked.now) }
+{
+    JumpTables::build(alloc, linked.index(), linked.texts(), linked.sites())
 }
 
 /// Whether a direct jump goes to the thunk for indirect ones.
