@@ -132,7 +132,9 @@ impl fmt::Display for CommandStop<'_> {
             }
             CommandStop::TooLong { file, limit } => {
                 let file = Escaped(file.as_bytes());
-                write!(f, "refused: {}\n", Longer { file, limit: *limit })
+                let limit = *limit;
+                let longer = Longer { file, limit };
+                write!(f, "refused: {longer}\n")
             }
             CommandStop::Refused(refusal) => write!(f, "refused: {refusal}\n"),
             CommandStop::PartMissing { part, file } => {
@@ -141,7 +143,9 @@ impl fmt::Display for CommandStop<'_> {
             }
             CommandStop::PartTooLong { part, file, limit } => {
                 let file = Escaped(file.as_bytes());
-                write!(f, "refused: file {part}: {}\n", Longer { file, limit: *limit })
+                let limit = *limit;
+                let longer = Longer { file, limit };
+                write!(f, "refused: file {part}: {longer}\n")
             }
             CommandStop::PartRefused { part, refusal } => {
                 write!(f, "refused: file {part}: {refusal}\n")

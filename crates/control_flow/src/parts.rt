@@ -136,35 +136,33 @@ pub(crate) fn parts_of(
     ensures tells { IfOk result (Tells (program_of points.now lists.now)) }
     ensures shape { IfOk result HaveShape }
 {
+    let edges = edge_parts(alloc, points, lists)?;
+    let own = point_parts(alloc, points, &edges.returns, &edges.transfers.numbers)?;
+    let beside = place_parts(alloc, points.places())?;
     let EdgeParts {
         returns,
         alike,
-        transfers: list,
-    } = edge_parts(alloc, points, lists)?;
+        transfers,
+    } = edges;
     let PointParts {
-        list: made,
+        list,
         owners,
         rares,
         restores,
-    } = point_parts(alloc, points, &returns, &list.numbers)?;
-    let PlaceParts {
-        sites,
-        texts,
-        without_size,
-    } = place_parts(alloc, points.places())?;
+    } = own;
     Ok(GraphParts {
-        points: made.points,
+        points: list.points,
         starts: returns.starts,
         edges: returns.edges,
         alike,
         owners,
-        kinds: made.kinds,
-        transfers: list.transfers,
+        kinds: list.kinds,
+        transfers: transfers.transfers,
         rares: rares.rares,
         hinted: rares.hinted,
         restores,
-        sites,
-        texts,
-        without_size,
+        sites: beside.sites,
+        texts: beside.texts,
+        without_size: beside.without_size,
     })
 }

@@ -84,13 +84,12 @@ impl<'l, 'o, 'a> PointLists<'l, 'o, 'a> {
     {
         points_are_low(places.linked());
         let Listed {
-            places:
-                ListedPlaces {
-                    originals,
-                    reachable,
-                    unreachable,
-                    intra_calls,
-                },
+            places: ListedPlaces {
+                originals,
+                reachable,
+                unreachable,
+                intra_calls,
+            },
             pairs: ListedPairs { branches, fixes },
             rooms,
         } = list_all(alloc, &places)?;
