@@ -21,9 +21,9 @@ class Failed(Exception):
     pass
 
 
-def demand(holds, *what):
+def demand(holds, otherwise):
     if not holds:
-        raise Failed(*what)
+        raise Failed(otherwise)
 
 
 class Command:
@@ -43,13 +43,14 @@ class Command:
             return ended, told.read()
 
     def as_before(self):
-        """Puts OUT back."""
+        """Puts OUT back: there is no `out`, and `itself.o` is as long ago as files can be."""
         with contextlib.suppress(FileNotFoundError):
             os.remove(self.at("out"))
         shutil.copy(f"{FOLDER}/straight.o", self.at("itself.o"))
         os.utime(self.at("itself.o"), (0, 0))
 
     def is_written(self):
+        """Whether there is an OUT, or IN was written since it was put back."""
         return os.path.exists(self.at("out")) or os.stat(self.at("itself.o")).st_mtime > 0
 
     def refused(self, number, onwards, text):
