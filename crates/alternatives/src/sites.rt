@@ -9,6 +9,7 @@ ghost use Rattle.alternatives.specs.Sites.{in_alternatives_site, is_in_site as l
 ghost use Rattle.alternatives.specs.Texts.{text_bytes, AreShort, AscendBySection};
 ghost use Rattle.alternatives.specs.declared.original.Original.{Original};
 ghost use Rattle.alternatives.specs.declared.site.AlternativesSite.{AlternativesSite};
+ghost use Rattle.x86_text.specs.InsnLists.{AreNumbered as AreInsnsNumbered};
 
 use crate::check::check_entries;
 use crate::fault::SiteFault;
@@ -24,7 +25,7 @@ use ot_base::{NoMemory, Place};
 use special_sections::{AltEntry, Special};
 use std::alloc::Global;
 use std::marker::Model;
-use x86_text::InsnList;
+use x86_text::{InsnList, NumberedInsns};
 
 /// The alternatives sites of an object, and the points of its code. Contracts see them as the lists of the
 /// sites, of the numbers of their entries, of the points with their instructions, and of all entries.
@@ -150,6 +151,14 @@ impl Sites {
         ensures { slice_get self.now.insns n ≡ Some result }
     {
         self.table.insn_of(n)
+    }
+
+    /// The instructions of the points as they are numbered: for each point, in their order, where its own stands among those
+    /// that came.
+    pub fn numbered_insns(&self) -> NumberedInsns<'_>
+        ensures { AreInsnsNumbered self.now.insns result.kinds.now result.numbers.now }
+    {
+        self.table.numbered_insns()
     }
 
     /// Where the point with this number runs: in the code as it is assembled, at its place; in a

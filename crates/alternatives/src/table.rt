@@ -6,6 +6,7 @@ ghost use Rattle.alternatives.specs.Gathered.{plain_insns};
 ghost use Rattle.alternatives.specs.Numbers.{IsNumberOf, IsRunOf};
 ghost use Rattle.alternatives.specs.Points.{address_of_point, first_of as first_point, insn_of_point as insn_of_a_point, point_after, points_of as points_in_order};
 ghost use Rattle.alternatives.specs.Texts.{text_bytes, AreShort, AscendBySection};
+ghost use Rattle.x86_text.specs.InsnLists.{AreNumbered as AreInsnsNumbered};
 
 use crate::near::Blocks;
 use crate::point::{Point, count_before, count_to};
@@ -17,7 +18,7 @@ use ot_base::{NoMemory, Place};
 use special_sections::AltEntry;
 use std::alloc::Global;
 use std::marker::Model;
-use x86_text::InsnList;
+use x86_text::{InsnList, NumberedInsns};
 
 /// The points of an object in their order, with their instructions, and its entries. Contracts see it
 /// as these lists.
@@ -106,6 +107,13 @@ impl PointTable {
         ensures { slice_get self.now.insns n ≡ Some result }
     {
         self.insns.get(n as usize)
+    }
+
+    /// The instructions of the points as they are numbered.
+    pub(crate) fn numbered_insns(&self) -> NumberedInsns<'_>
+        ensures { AreInsnsNumbered self.now.insns result.kinds.now result.numbers.now }
+    {
+        self.insns.numbered()
     }
 
     /// Where a point runs.

@@ -12,6 +12,7 @@ use Rattle.program_graph.specs.declared.parts.Owner.{Owner}
 use Rattle.program_graph.specs.declared.parts.GraphPoint.{GraphPoint}
 use Rattle.program_graph.specs.declared.parts.PointKind.{PointKind}
 use Rattle.return_search.specs.declared.found_returns.Returns.{Returns}
+use Rattle.control_flow.specs.Numbers.{IsNumbered}
 
 -- it is the kind of point q, where it is told whether a return may come from it on, and where what few points have and its
 -- transfer stand for it
@@ -22,6 +23,12 @@ pub record IsKind (o : Coded) (q : ℕ) (may_return : Bool) (rare transfer : ℕ
   pub dead_end : is_dead_end o (point_at o q) ≡ k.is_dead_end
   pub returns : may_return ≡ k.may_return
   pub entered : (lists : NameLists) → is_at_entry (program_of o lists) q ≡ k.is_entered
+
+-- the kind of point q has a number among those after, where others keep the numbers that they had before
+pub record HasKind (o : Coded) (q : ℕ) (may_return : Bool) (rare transfer : ℕ) (before after : List PointKind) (number : ℕ) : Type 0 where
+  pub kind : PointKind
+  pub is_kind : IsKind o q may_return rare transfer kind
+  pub numbered : IsNumbered before after kind number
 
 -- it is point q, where it is told where its kind stands
 pub record IsPlaced (o : Coded) (owners : List Owner) (q kind : ℕ) (x : GraphPoint) : Type 0 where

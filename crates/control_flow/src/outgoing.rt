@@ -192,8 +192,8 @@ struct Gathered {
 }
 
 impl Gathered {
-    /// No points.
-    fn new(alloc: Global, object: &Object<'_>) -> Result<Gathered, NoMemory>
+    /// No points yet, of so many.
+    fn new(alloc: Global, object: &Object<'_>, points: usize) -> Result<Gathered, NoMemory>
         ensures edges { IfOk result (λ gathered. gathered.edges.items ≡ []) }
         ensures jumps { IfOk result (λ gathered. (o : Coded) → AreLoneJumps o gathered.jumps 0) }
         ensures alike { IfOk result (λ gathered. gathered.jumps.alike.items ≡ []) }
@@ -203,7 +203,8 @@ impl Gathered {
         let mut transfers = Vec::new(alloc);
         transfers.push(USUAL)?;
         Ok(Gathered {
-            edges: Vec::new(alloc),
+            // Most points have one edge.
+            edges: Vec::with_capacity(alloc, points.saturating_add(points / 4))?,
             jumps: LoneJumps::new(alloc),
             transfers,
             names: no_names(alloc, object)?,
@@ -293,7 +294,8 @@ pub(crate) fn list_outgoing(
     starts.push_reserved(0);
     let mut exits = Vec::with_capacity(alloc, count as usize)?;
     let mut numbers = Vec::with_capacity(alloc, count as usize)?;
-    let mut gathered = Gathered::new(alloc, points.places().linked().object())?;
+    let object = points.places().linked().object();
+    let mut gathered = Gathered::new(alloc, object, count as usize)?;
     for n in 0..count {
         let kept = list_point(alloc, points, lists, n, &mut gathered, &numbers)?;
         if gathered.edges.len() > u32::MAX as usize {

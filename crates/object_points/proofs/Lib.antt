@@ -5,7 +5,9 @@ pub mod Points
 pub mod Items
 mod ItemSpans
 pub mod ListedFields
-pub mod OwnerPairs
+mod Decoded
+mod Pairing
+mod PairsOf
 mod PatchMarks
 pub mod Made
 pub mod SitePlaces

@@ -1,5 +1,5 @@
 -- What is kept beside an object whose code is read.
-use Rattle.std.specs.Prelude.{◌<◌, ℕ, List, length}
+use Rattle.std.specs.Prelude.{◌<◌, ◌≤◌, ℕ, List, length}
 use Rattle.ot_base.specs.declared.place.Place.{Place}
 use Rattle.flow_defs.specs.Coded.{Coded}
 use Rattle.special_sections.specs.declared.entries.HintEntry.{HintEntry}
@@ -17,6 +17,7 @@ pub record IsKept (o : Coded) (places : List Place) (owners : List ℕ) (items :
   pub starts : AreStarts o.elf places
   pub unchecked : AreUnchecked o.elf owners
   pub points : TellOwners o items numbers
+  pub few_items : length items ≤ 4194305
   pub hinted : HaveSameLast (special_of o.elf).hints hints
   pub some_marks : 0 < length marks
   pub unmarked : HasUnmarkedNoSite o marks

@@ -3,7 +3,8 @@ pub mod Starts
 pub mod CodeOwners
 pub mod Kept
 pub mod Owners
-pub mod Functions
+pub mod Pairs
+pub mod Decoded
 pub mod Plain
 pub mod Places
 pub mod Marks

@@ -10,7 +10,7 @@ use Rattle.flow_defs.specs.Program.{is_patch_section}
 -- the object, and its items: for each of its functions and for code of no function one outside the sections to which control
 -- comes by patching alone, and one in these
 pub record OwnerList : Type 0 where
-  pub elf : Elf
+  pub object : Coded
   pub owners : List Owner
 
 -- the item is that of a function, or of none, in such a section or in another

@@ -1,6 +1,6 @@
 //! Whose code the points of an object are.
 
-ghost use Rattle.std.specs.Prelude.{◌≡◌, ◌<◌, None, Some, IfOk, IfSome, length, unwrap_or};
+ghost use Rattle.std.specs.Prelude.{◌≡◌, ◌<◌, ◌≤◌, None, Some, IfOk, IfSome, length, unwrap_or};
 ghost use Rattle.elf_objects.specs.Elf.{Elf};
 ghost use Rattle.symbols_relocs.specs.Lists.{symbol_of};
 ghost use Rattle.symbols_relocs.specs.Parts.{owner_of as owner_of_function};
@@ -18,13 +18,22 @@ use symbols_relocs::Index;
 
 /// Whose code that of a function is, or code of no function.
 #[derive(Clone, Copy)]
-pub(crate) struct CodeOwner {
+pub struct CodeOwner {
     /// The function, by its symbol.
-    pub(crate) function: Option<u32>,
+    pub function: Option<u32>,
     /// Its owner, by its symbol.
-    pub(crate) owner: Option<u32>,
+    pub owner: Option<u32>,
     /// Whether what that owns isn't checked.
-    pub(crate) is_unchecked: bool,
+    pub is_unchecked: bool,
+}
+
+/// Whose code the points of an object are.
+#[derive(Clone, Copy)]
+pub struct CodeOwners<'p> {
+    /// Whose code that of each function is, in the order of their starts, and behind these whose code of no function is.
+    pub items: &'p [CodeOwner],
+    /// For each point, which of these items is that of the place where it runs.
+    pub numbers: &'p [u32],
 }
 
 /// Whose code that of the function with an index is.
@@ -59,7 +68,8 @@ pub(crate) fn list_items(
     unchecked: &[u32],
 ) -> Result<Vec<CodeOwner>, NoMemory>
     requires { AreUnchecked index.now.elf unchecked.now }
-    ensures { IfOk result (λ items. AreItems index.now.elf index.now.functions items.items) }
+    ensures items { IfOk result (λ items. AreItems index.now.elf index.now.functions items.items) }
+    ensures few { IfOk result (λ items. length items.items ≤ 4194305) }
 {
     let count = index.functions().len();
     let mut items = Vec::with_capacity(alloc, count + 1)?;

@@ -28,6 +28,7 @@ mod text_sections;
 mod texts;
 mod unchecked;
 
+pub use code_owners::{CodeOwner, CodeOwners};
 pub use fault::LinkFault;
 pub use fault_text::LinkFaultText;
 pub use hint_points::HintPoints;

@@ -1,16 +1,17 @@
 //! Points by their numbers.
 
-ghost use Rattle.std.specs.Prelude.{◌≡◌, ◌+◌, ◌<◌, Some, None, false, length, nat_le, slice_get, IfOk, IfSome};
+ghost use Rattle.std.specs.Prelude.{◌≡◌, ◌+◌, ◌<◌, ◌≤◌, Some, None, false, length, nat_le, slice_get, IfOk, IfSome};
 ghost use Rattle.alternatives.specs.Texts.{is_boundary as is_a_boundary};
 ghost use Rattle.alternatives.specs.Points.{address_of_point};
 ghost use Rattle.flow_defs.specs.Arrival.{decoded_insn as decoded_insn_of, hint_of, is_padding as is_padding_at};
 ghost use Rattle.flow_defs.specs.Code.{alternatives_of, number_of as number_of_point, plain_point, point_at, points_of_object, texts_of};
-ghost use Rattle.object_points.specs.CodeOwners.{IsItemBy};
+ghost use Rattle.object_points.specs.CodeOwners.{IsItemBy, TellOwners};
+ghost use Rattle.object_points.specs.Decoded.{AreDecoded};
 ghost use Rattle.flow_defs.specs.Owners.{function_of_point, is_entry as is_an_entry, is_unchecked as is_unchecked_by, is_unchecked_point as is_unchecked_at, owner_of_point, unchecked_start as unchecked_starting_at};
 ghost use Rattle.flow_defs.specs.Sites.{site_holding};
 
 use crate::PlaceSet;
-use crate::code_owners::{CodeOwner, address_of, list_items, list_numbers};
+use crate::code_owners::{CodeOwner, CodeOwners, address_of, list_items, list_numbers};
 use crate::function_starts::list_starts;
 use crate::linked::Linked;
 use crate::marked_hints::MarkedHints;
@@ -23,6 +24,7 @@ use ot_base::{NoMemory, Place};
 use state_defs::HintState;
 use std::alloc::Global;
 use std::marker::Model;
+use x86_text::NumberedInsns;
 
 /// The points of an object whose code is read, with who owns them and the hints at them. Contracts see it as the object.
 ///
@@ -150,6 +152,27 @@ impl<'l, 'o, 'a> PointPlaces<'l, 'o, 'a> {
         ensures { result ≡ decoded_insn_of self.now (point_at self.now n) }
     {
         self.linked.sites().insn_of(n)
+    }
+
+    /// The instructions of the points as they are decoded and numbered: that of each point, in their order, is the one that
+    /// stands at its number among those that came.
+    pub fn numbered_insns(&self) -> NumberedInsns<'l>
+        ensures { AreDecoded self.now result.kinds.now result.numbers.now }
+    {
+        self.linked.sites().numbered_insns()
+    }
+
+    /// Whose code the points are.
+    pub fn code_owners(&self) -> CodeOwners<'_>
+        ensures told { TellOwners self.now result.items.now result.numbers.now }
+        ensures few { length result.items.now ≤ 4194305 }
+    {
+        // There is an item for each of these functions, and one more.
+        self.linked.index().functions();
+        CodeOwners {
+            items: &self.items,
+            numbers: &self.numbers,
+        }
     }
 
     /// Whether a point is the padding behind a replacement.

@@ -21,3 +21,4 @@ mod told;
 pub use arrivals::PointArrivals;
 pub use own_points::point;
 pub use relocated::has_relocated_offset;
+pub use remade::stays_decoded;

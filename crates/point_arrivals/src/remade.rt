@@ -1,8 +1,9 @@
 //! The instruction of a point: what the program makes of the one that is decoded.
 
-ghost use Rattle.std.specs.Prelude.{◌≡◌, ◌<◌, ◌&&◌, Some, if◌then◌else◌, length, All, IfOk};
+ghost use Rattle.std.specs.Prelude.{◌≡◌, ◌<◌, ◌&&◌, Some, if◌then◌else◌, length, All, IfOk, IsTrue};
 ghost use Rattle.alternatives.specs.declared.point.Point.{Point};
 ghost use Rattle.flow_defs.specs.Tables.{same_owner};
+ghost use Rattle.flow_defs.specs.Coded.{Coded};
 ghost use Rattle.operation_defs.specs.Made.{made as made_of};
 ghost use Rattle.flow_defs.specs.Arrival.{around, decoded_insn, goes_on_behind as goes_on_in_owner, insn_of_object, tells_frame as tells_a_frame};
 ghost use Rattle.flow_defs.specs.Code.{point_at, points_of_object};
@@ -24,6 +25,13 @@ fn may_be_remade(op: Op) -> bool
         op,
         Op::Call { .. } | Op::LeaBpSp { .. } | Op::Iret | Op::Switch
     )
+}
+
+/// Whether an operation stays as it is decoded, wherever it stands: the program makes no other one of it.
+pub fn stays_decoded(op: Op) -> bool
+    ensures { IsTrue result → (o : Coded) (p : Point) → (decoded_insn o p).op ≡ op → insn_of_object o p ≡ decoded_insn o p }
+{
+    !may_be_remade(op)
 }
 
 /// Whether what owns a point is this owner.

@@ -33,4 +33,5 @@ pub use marking::marks;
 pub use order::object_is_in_order;
 pub use place_owner::owner_at;
 pub use place_ways::listed_way;
+pub use point_arrivals::stays_decoded;
 pub use roles::role;

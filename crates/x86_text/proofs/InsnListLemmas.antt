@@ -7,7 +7,7 @@ use Rattle.std.proofs.lemmas.List.Elements.{All-push, All-set}
 use Rattle.std.proofs.lemmas.Option.{get_or_from_slice_get, slice_get-get_or, slice_get_within}
 use Rattle.operation_defs.specs.declared.insn.Insn.{Insn}
 use Rattle.operation_defs.specs.declared.op.Op.TheVariants.{Plain}
-use Rattle.x86_text.specs.InsnLists.{kind_of, insns_numbered, AreNumbers}
+use Rattle.x86_text.specs.InsnLists.{kind_of, insns_numbered, AreNumbered, AreNumbers}
 
 abbrev any_insn : Insn
 any_insn = record { len = 0; op = Plain }
@@ -63,3 +63,19 @@ moved_insn kinds numbers insns is to from number inside read =
     ∙ ap (kind_of kinds) (sym read) in
     let found : slice_get insns from ≡ Some insn = slice_get-get_or insns from any_insn inside ∙ ap (λ (i : Insn). Some i) here in
     subst (λ (o : Option Insn). IfSome o (λ i. insns_numbered kinds (set numbers to number) ≡ set insns to i)) (sym found) (map-set (kind_of kinds) numbers to number ∙ ap (λ (xs : List Insn). set xs to insn) is)
+
+-- so each stands at its number
+pub numbered_insns : (kinds : List Insn) (numbers : List ℕ) → AreNumbers kinds numbers → AreNumbered (insns_numbered kinds numbers) kinds numbers
+numbered_insns kinds numbers are = record {
+  long = sym (length-map numbers (kind_of kinds));
+  inside = are;
+  each = λ n k insn number at.
+      let within : n < length numbers = slice_get_within numbers n k number in
+      let is : get_or numbers n k ≡ k = get_or_from_slice_get numbers n k k number in
+      let below : k < length kinds = subst (λ m. m < length kinds) is (are n k within) in
+      let here : insn ≡ kind_of kinds k =
+      sym (get_or_from_slice_get (insns_numbered kinds numbers) n insn any_insn at)
+      ∙ get_or-map (kind_of kinds) numbers n k any_insn within
+      ∙ ap (kind_of kinds) is in
+      slice_get-get_or kinds k any_insn below ∙ ap (λ i. Some i) (sym here);
+}

@@ -1,6 +1,6 @@
 -- What is known of the bytes that were read before, and of those that are decoded.
-use Rattle.std.specs.Prelude.{◌↔◌}
-use Rattle.std.proofs.Common.{◌≡◌, ℕ, zero, suc, ◌+◌, ◌*◌, ◌-◌, ◌/◌, ◌%◌, ◌^◌, ◌<◌, ◌≤◌, List, [], ◌∷◌, ◌++◌, take, drop, length, get_or, Result, Ok, Err, All, refl, sym, ap, ◌∙◌, subst, arith}
+use Rattle.std.specs.Prelude.{◌↔◌, slice_get}
+use Rattle.std.proofs.Common.{◌≡◌, ℕ, zero, suc, ◌+◌, ◌*◌, ◌-◌, ◌/◌, ◌%◌, ◌^◌, ◌<◌, ◌≤◌, List, [], ◌∷◌, ◌++◌, take, drop, length, get_or, Result, Ok, Err, Some, All, refl, sym, ap, ◌∙◌, subst, arith}
 use Rattle.std.specs.Int.{w64, to_le_bytes}
 use Rattle.std.proofs.Math.Pow.{mod-mod-pow}
 use Rattle.std.proofs.Math.Seq.{take-add}
@@ -14,9 +14,10 @@ use Rattle.x86_decode.specs.Decoding.{Outcome, StandsInFront, EndsOutside, IsCut
 use Rattle.x86_decode.specs.Spelling.{Spells}
 use Rattle.x86_decode.proofs.Decided.{bytes_from_each, decides, lengths, outcome}
 use Rattle.x86_decode.proofs.Languages.{IsBytes}
+use Rattle.x86_text.specs.declared.known.Known.{Known}
 use Rattle.x86_text.specs.declared.known.LongSpelling.{LongSpelling}
 use Rattle.x86_text.specs.declared.known.Spelling.{Spelling}
-use Rattle.x86_text.specs.Known.{insn_spelled, long_bytes, long_insn_spelled, upper_bytes, IsLongSpelling, IsSpelling}
+use Rattle.x86_text.specs.Known.{long_bytes, upper_bytes, AreSpellings, IsKindInFront, IsLongSpelling, IsSpelling, SpellsKind}
 
 module _ (bytes : List ℕ) (off : ℕ) (each : (k : ℕ) → get_or bytes k 0 < 256) where
   still_bytes : IsBytes (drop off bytes)
@@ -89,30 +90,44 @@ moved_up x (suc (suc (suc (suc (suc (suc (suc (suc (suc len))))))))) some few = 
 
 -- ---- spellings
 
-module _ (map : Map) (bytes : List ℕ) (first front len : ℕ) (is : to_le_bytes w64 first ≡ take 8 bytes) (few : len ≤ 8) (above : upper_bytes front len ≡ take len (to_le_bytes w64 first)) where
+-- those whose bytes are in front spell what stands there
+in_front : (map : Map) (kinds : List Insn) (bytes spelled : List ℕ) (len number : ℕ) → 0 < len → len ≤ 15 → spelled ≡ take len bytes → SpellsKind map kinds spelled len number → IsKindInFront map kinds bytes number
+in_front map kinds bytes spelled len number some few same is = record {
+  insn = is.insn;
+  at = is.at;
+  stands = (omega (arith, is.long), subst (λ front. Spells map front is.insn) (same ∙ ap (λ n. take n bytes) (sym is.long)) is.spells);
+}
+
+-- what stands in front is spelled by its bytes
+spelled_now : (map : Map) (kinds : List Insn) (bytes spelled : List ℕ) (len number : ℕ) (insn : Insn) → spelled ≡ take len bytes → slice_get kinds number ≡ Some insn → insn.len ≡ len → StandsInFront map bytes insn → SpellsKind map kinds spelled len number
+spelled_now map kinds bytes spelled len number insn same at long stands = record {
+  insn = insn;
+  at = at;
+  long = long;
+  spells = subst (λ front. Spells map front insn) (ap (λ n. take n bytes) long ∙ sym same) stands.1;
+}
+
+module _ (map : Map) (kinds : List Insn) (bytes : List ℕ) (first front len : ℕ) (is : to_le_bytes w64 first ≡ take 8 bytes) (few : len ≤ 8) (above : upper_bytes front len ≡ take len (to_le_bytes w64 first)) where
   same_bytes : upper_bytes front len ≡ take len bytes
   same_bytes = above ∙ ap (take len) is ∙ take-take len 8 bytes few
 
   -- a known one stands in front
-  pub stands_known : (s : Spelling) → s.front ≡ front → s.len ≡ len → 0 < len → IsSpelling map s → StandsInFront map bytes (record { len = len; op = s.op })
+  pub stands_known : (s : Spelling) → s.front ≡ front → s.len ≡ len → 0 < len → IsSpelling map kinds s → IsKindInFront map kinds bytes s.number
   stands_known s same_front same_len some known =
       let same : upper_bytes s.front s.len ≡ take s.len bytes = ap (λ f. upper_bytes f s.len) same_front ∙ ap (upper_bytes front) same_len ∙ same_bytes ∙ ap (λ n. take n bytes) (sym same_len) in
-      subst (λ n. StandsInFront map bytes (record { len = n; op = s.op })) same_len (omega arith, subst (λ front. Spells map front (insn_spelled s)) same (known (omega arith)))
+      in_front map kinds bytes (upper_bytes s.front s.len) s.len s.number (omega arith) (omega arith) same (known (omega arith))
 
   -- what stands in front is known from now on
-  pub known_now : (insn : Insn) (s : Spelling) → insn.len ≡ len → s.front ≡ front → insn_spelled s ≡ insn → StandsInFront map bytes insn → IsSpelling map s
-  known_now insn s same_len same_front is_insn stands some =
-      let s_len : s.len ≡ len = ap (λ (i : Insn). i.len) is_insn ∙ same_len in
-      let same : take insn.len bytes ≡ upper_bytes s.front s.len = ap (λ n. take n bytes) same_len ∙ sym same_bytes ∙ ap (λ f. upper_bytes f len) (sym same_front) ∙ ap (upper_bytes s.front) (sym s_len) in
-      subst (Spells map (upper_bytes s.front s.len)) (sym is_insn) (subst (λ front. Spells map front insn) same stands.1)
+  pub known_now : (insn : Insn) (number : ℕ) → slice_get kinds number ≡ Some insn → insn.len ≡ len → StandsInFront map bytes insn → IsSpelling map kinds (record { front = front; number = number; len = len })
+  known_now insn number at same_len stands some = spelled_now map kinds bytes (upper_bytes front len) len number insn same_bytes at same_len stands
 
 -- one that is looked up is among those that are known
-pub looked_up : (map : Map) (spellings now : List Spelling) (place : ℕ) (s : Spelling) → now ≡ spellings → All (IsSpelling map) spellings → place < length now → s ≡ get_or now place s → IsSpelling map s
-looked_up map spellings now place s same all inside is = subst (IsSpelling map) (sym is) (subst (All (IsSpelling map)) (sym same) all place s inside)
+pub looked_up : (map : Map) (kinds : List Insn) (spellings now : List Spelling) (place : ℕ) (s : Spelling) → now ≡ spellings → All (IsSpelling map kinds) spellings → place < length now → s ≡ get_or now place s → IsSpelling map kinds s
+looked_up map kinds spellings now place s same all inside is = subst (IsSpelling map kinds) (sym is) (subst (All (IsSpelling map kinds)) (sym same) all place s inside)
 
 -- ---- longer spellings
 
-module _ (map : Map) (bytes : List ℕ) (front back len : ℕ) (many : 8 < len) (few : len ≤ 15) (first : to_le_bytes w64 front ≡ take 8 bytes) (last : to_le_bytes w64 back ≡ take 8 (drop (len - 8) bytes)) where
+module _ (map : Map) (kinds : List Insn) (bytes : List ℕ) (front back len : ℕ) (many : 8 < len) (few : len ≤ 15) (first : to_le_bytes w64 front ≡ take 8 bytes) (last : to_le_bytes w64 back ≡ take 8 (drop (len - 8) bytes)) where
   same_long : long_bytes front back len ≡ take len bytes
   same_long =
       let sum : len - 8 + 8 ≡ len = omega arith in
@@ -123,16 +138,28 @@ module _ (map : Map) (bytes : List ℕ) (front back len : ℕ) (many : 8 < len) 
       ∙ ap (λ n. take n bytes) sum
 
   -- a known one stands in front
-  pub stands_long : (s : LongSpelling) → s.front ≡ front → s.back ≡ back → s.len ≡ len → IsLongSpelling map s → StandsInFront map bytes (record { len = len; op = s.op })
+  pub stands_long : (s : LongSpelling) → s.front ≡ front → s.back ≡ back → s.len ≡ len → IsLongSpelling map kinds s → IsKindInFront map kinds bytes s.number
   stands_long s same_front same_back same_len known =
       let same : long_bytes s.front s.back s.len ≡ take s.len bytes = ap (λ f. long_bytes f s.back s.len) same_front ∙ ap (λ b. long_bytes front b s.len) same_back ∙ ap (long_bytes front back) same_len ∙ same_long ∙ ap (λ n. take n bytes) (sym same_len) in
-      subst (λ n. StandsInFront map bytes (record { len = n; op = s.op })) same_len (omega arith, subst (λ front. Spells map front (long_insn_spelled s)) same (known (omega arith)))
+      in_front map kinds bytes (long_bytes s.front s.back s.len) s.len s.number (omega arith) (omega arith) same (known (omega arith))
 
   -- what stands in front is known from now on
-  pub long_known_now : (insn : Insn) (number : ℕ) → insn.len ≡ len → StandsInFront map bytes insn → IsLongSpelling map (record { front = front; back = back; op = insn.op; number = number; len = insn.len })
-  long_known_now insn number same_len stands some =
-      subst (λ front. Spells map front insn) (ap (λ n. take n bytes) same_len ∙ sym same_long ∙ ap (long_bytes front back) (sym same_len)) stands.1
+  pub long_known_now : (insn : Insn) (number : ℕ) → slice_get kinds number ≡ Some insn → insn.len ≡ len → StandsInFront map bytes insn → IsLongSpelling map kinds (record { front = front; back = back; number = number; len = len })
+  long_known_now insn number at same_len stands some = spelled_now map kinds bytes (long_bytes front back len) len number insn same_long at same_len stands
 
 -- one that is looked up is among those that are known
-pub long_looked_up : (map : Map) (spellings now : List LongSpelling) (place : ℕ) (s : LongSpelling) → now ≡ spellings → All (IsLongSpelling map) spellings → place < length now → s ≡ get_or now place s → IsLongSpelling map s
-long_looked_up map spellings now place s same all inside is = subst (IsLongSpelling map) (sym is) (subst (All (IsLongSpelling map)) (sym same) all place s inside)
+pub long_looked_up : (map : Map) (kinds : List Insn) (spellings now : List LongSpelling) (place : ℕ) (s : LongSpelling) → now ≡ spellings → All (IsLongSpelling map kinds) spellings → place < length now → s ≡ get_or now place s → IsLongSpelling map kinds s
+long_looked_up map kinds spellings now place s same all inside is = subst (IsLongSpelling map kinds) (sym is) (subst (All (IsLongSpelling map kinds)) (sym same) all place s inside)
+
+-- ---- as more instructions come
+
+module _ (kinds more : List Insn) (kept : (k : ℕ) (kind : Insn) → slice_get kinds k ≡ Some kind → slice_get more k ≡ Some kind) where
+  still_spells : (map : Map) (bytes : List ℕ) (len number : ℕ) → SpellsKind map kinds bytes len number → SpellsKind map more bytes len number
+  still_spells map bytes len number is = record { insn = is.insn; at = kept number is.insn is.at; long = is.long; spells = is.spells }
+
+  -- what is known stays true
+  pub still_spellings : (known : Known) → AreSpellings kinds known → AreSpellings more known
+  still_spellings known are = record {
+    short = λ k d within some. still_spells known.map _ _ _ (are.short k d within some);
+    long = λ k d within some. still_spells known.map _ _ _ (are.long k d within some);
+  }

@@ -1,8 +1,9 @@
 -- Spellings that were read before.
-use Rattle.std.specs.Prelude.{ℕ, ◌-◌, ◌<◌, ◌++◌, List, take, drop, All}
+use Rattle.std.specs.Prelude.{◌≡◌, ℕ, ◌-◌, ◌<◌, ◌++◌, List, Some, take, drop, slice_get, All}
 use Rattle.std.specs.Int.{w64, to_le_bytes}
 use Rattle.operation_defs.specs.declared.insn.Insn.{Insn}
 use Rattle.x86_map.specs.declared.map.Map.{Map}
+use Rattle.x86_decode.specs.Decoding.{StandsInFront}
 use Rattle.x86_decode.specs.Spelling.{Spells}
 use Rattle.x86_text.specs.declared.known.Known.{Known}
 use Rattle.x86_text.specs.declared.known.LongSpelling.{LongSpelling}
@@ -12,27 +13,31 @@ use Rattle.x86_text.specs.declared.known.Spelling.{Spelling}
 abbrev pub upper_bytes : ℕ → ℕ → List ℕ
 upper_bytes number len = drop (8 - len) (to_le_bytes w64 number)
 
--- the instruction that is spelled
-abbrev pub insn_spelled : Spelling → Insn
-insn_spelled s = record { len = s.len; op = s.op }
-
--- its bytes spell its instruction; without a length it is none yet
-abbrev pub IsSpelling : Map → Spelling → Type 0
-IsSpelling map s = 0 < s.len → Spells map (upper_bytes s.front s.len) (insn_spelled s)
-
 -- so many bytes, of which these numbers have the first eight and the last eight
 abbrev pub long_bytes : ℕ → ℕ → ℕ → List ℕ
 long_bytes front back len = take (len - 8) (to_le_bytes w64 front) ++ to_le_bytes w64 back
 
--- the instruction that is spelled by more than eight
-abbrev pub long_insn_spelled : LongSpelling → Insn
-long_insn_spelled s = record { len = s.len; op = s.op }
+-- these bytes, so many, spell the instruction with this number among these
+pub record SpellsKind (map : Map) (kinds : List Insn) (bytes : List ℕ) (len number : ℕ) : Type 0 where
+  pub insn : Insn
+  pub at : slice_get kinds number ≡ Some insn
+  pub long : insn.len ≡ len
+  pub spells : Spells map bytes insn
+
+-- the instruction with this number among these stands in front of these bytes
+pub record IsKindInFront (map : Map) (kinds : List Insn) (bytes : List ℕ) (number : ℕ) : Type 0 where
+  pub insn : Insn
+  pub at : slice_get kinds number ≡ Some insn
+  pub stands : StandsInFront map bytes insn
 
 -- its bytes spell its instruction; without a length it is none yet
-abbrev pub IsLongSpelling : Map → LongSpelling → Type 0
-IsLongSpelling map s = 0 < s.len → Spells map (long_bytes s.front s.back s.len) (long_insn_spelled s)
+abbrev pub IsSpelling : Map → List Insn → Spelling → Type 0
+IsSpelling map kinds s = 0 < s.len → SpellsKind map kinds (upper_bytes s.front s.len) s.len s.number
+
+abbrev pub IsLongSpelling : Map → List Insn → LongSpelling → Type 0
+IsLongSpelling map kinds s = 0 < s.len → SpellsKind map kinds (long_bytes s.front s.back s.len) s.len s.number
 
 -- each of those that are known is one
-pub record AreSpellings (map : Map) (known : Known) : Type 0 where
-  pub short : All (IsSpelling map) known.spellings.items
-  pub long : All (IsLongSpelling map) known.long.items
+pub record AreSpellings (kinds : List Insn) (known : Known) : Type 0 where
+  pub short : All (IsSpelling known.map kinds) known.spellings.items
+  pub long : All (IsLongSpelling known.map kinds) known.long.items

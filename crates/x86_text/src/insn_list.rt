@@ -1,12 +1,20 @@
 //! Lists of instructions.
 
-ghost use Rattle.std.specs.Prelude.{◌≡◌, ◌<◌, ◌∷◌, ◌++◌, [], ℕ, true, Some, length, slice_get, slice_set, IfOk, IfSome, OnOk};
+ghost use Rattle.std.specs.Prelude.{◌≡◌, ◌<◌, ◌∷◌, ◌++◌, [], ℕ, true, Ok, Some, length, drop, slice_get, slice_set, IfErr, IfOk, IfSome, OnOk};
 ghost use Rattle.operation_defs.specs.declared.insn.Insn.{Insn};
+ghost use Rattle.x86_decode.specs.Decoding.{decoded, StandsInFront};
+ghost use Rattle.x86_text.specs.Code.{read_by, IsBoundary};
+ghost use Rattle.x86_text.specs.InsnLists.{AreNumbered};
+ghost use Rattle.x86_text.specs.Refused.{IsTextFault};
 
+use crate::fault::TextFault;
+use crate::known::Known;
+use crate::numbered::NumberedInsns;
 use operation_defs::{Insn, Op};
 use ot_base::NoMemory;
 use std::alloc::Global;
 use std::marker::Model;
+use x86_decode::{Map, decode};
 
 /// How many variants of operations have no number.
 const BARE: usize = 24;
@@ -17,7 +25,8 @@ const HALF: usize = 512;
 
 /// A list of instructions, of which equal ones mostly stand once. Contracts see it as the list.
 ///
-/// An instruction of the list takes 4 bytes, and one that isn't equal to another 24 more.
+/// An instruction of the list takes 4 bytes, and one that isn't equal to another 24 more. The spellings take about 5 bytes
+/// for each byte of code that was read at most, and never more than 1.2 MB.
 #[derive(Drop)]
 pub struct InsnList {
     /// The instructions that came, each once or, rarely, more often.
@@ -27,18 +36,20 @@ pub struct InsnList {
     /// For each hash, where in `kinds` the last one that has it stands. It is a guess: what it tells is tried by
     /// comparison.
     recent: Vec<u32>,
+    /// How instructions are spelled that were read, with the numbers of those in `kinds`.
+    known: Known,
 }
 
 impl Model for InsnList {
     ghost use Rattle.std.specs.Prelude.{List};
     ghost use Rattle.operation_defs.specs.declared.insn.Insn.{Insn};
-    ghost use Rattle.x86_text.specs.InsnLists.{insns_numbered, AreNumbers};
+    ghost use Rattle.x86_text.specs.InsnLists.{insns_numbered, IsInsnList};
 
     ghost Value = { List Insn };
 
     ghost view = { λ l. insns_numbered l.kinds.items l.numbers.items };
 
-    ghost invariant = { λ l. AreNumbers l.kinds.items l.numbers.items };
+    ghost invariant = { λ l. IsInsnList l.kinds.items l.numbers.items l.known };
 }
 
 impl InsnList {
@@ -50,6 +61,7 @@ impl InsnList {
             kinds: Vec::new(alloc),
             numbers: Vec::new(alloc),
             recent: vec![in alloc; 0; 2 * HALF]?,
+            known: Known::new(alloc, Map::Base, 0)?,
         })
     }
 
@@ -68,6 +80,16 @@ impl InsnList {
         self.kinds[self.numbers[n] as usize]
     }
 
+    /// The instructions as they are numbered.
+    pub fn numbered(&self) -> NumberedInsns<'_>
+        ensures { AreNumbered self.now result.kinds.now result.numbers.now }
+    {
+        NumberedInsns {
+            kinds: &self.kinds,
+            numbers: &self.numbers,
+        }
+    }
+
     /// Adds one behind them. 2^32 - 1 that differ, which would take 96 GiB, are too many.
     pub fn push(&mut self, insn: Insn) -> Result<(), NoMemory>
         ensures { OnOk result (self.new ≡ self.old ++ insn ∷ []) }
@@ -77,22 +99,59 @@ impl InsnList {
         Ok(())
     }
 
-    /// Adds one behind them, of which the number among those that came is guessed. As for `push`, there may be too many that
-    /// differ.
-    #[inline(always)]
-    pub(crate) fn push_guessed(&mut self, insn: Insn, number: u32) -> Result<(), NoMemory>
-        ensures { OnOk result (self.new ≡ self.old ++ insn ∷ []) }
+    /// Makes room for the instructions of a body of so many bytes, as far as these have three bytes or more, and to know their
+    /// spellings by a map, beside those that were read before. What was known is forgotten where more room has to be made.
+    pub(crate) fn make_room(&mut self, alloc: Global, map: Map, size: usize) -> Result<(), NoMemory>
+        ensures { self.new ≡ self.old }
     {
-        if !has_number(&self.kinds, number, insn) {
-            return self.push(insn);
+        self.numbers.reserve(size / 3)?;
+        let count = (size / 8).saturating_add(self.numbers.len() / 2);
+        if !self.known.has_room(map, count) {
+            self.known = Known::new(alloc, map, count.saturating_mul(2))?;
         }
-        self.numbers.push(number)?;
         Ok(())
     }
 
-    /// The number among those that came of the last one, to be guessed later. No contract says so.
-    pub(crate) fn last_number(&self) -> u32 {
-        self.numbers.last().copied().unwrap_or(0)
+    /// Reads the instruction at a boundary of a body by a map, and adds it. It is the one that `decode` gives.
+    #[inline(always)]
+    pub(crate) fn read(&mut self, map: Map, body: &[u8], off: usize) -> Result<Insn, TextFault>
+        requires boundary { IsBoundary (read_by map body.now) off }
+        requires inside { off < length body.now }
+        ensures insn { IfOk result (λ insn. decoded map (drop off body.now) ≡ Ok insn) }
+        ensures added { IfOk result (λ insn. self.new ≡ self.old ++ insn ∷ []) }
+        ensures fault { IfErr result (IsTextFault (read_by map body.now)) }
+    {
+        let bytes = &body[off..];
+        if self.known.is_by(map) {
+            if let Some(number) = self.known.find(bytes) {
+                let insn = self.kinds[number as usize];
+                self.numbers.push(number)?;
+                return Ok(insn);
+            }
+        }
+        match decode(map, bytes) {
+            Ok(insn) => {
+                self.push_read(map, bytes, insn)?;
+                Ok(insn)
+            }
+            Err(why) => {
+                let off = off as u64;
+                Err(TextFault::At { off, why })
+            }
+        }
+    }
+
+    /// Adds the one with which the bytes begin by a map behind them.
+    fn push_read(&mut self, map: Map, bytes: &[u8], insn: Insn) -> Result<(), NoMemory>
+        requires { StandsInFront map bytes.now insn }
+        ensures { OnOk result (self.new ≡ self.old ++ insn ∷ []) }
+    {
+        let number = number_of(&mut self.kinds, &mut self.recent, insn)?;
+        self.numbers.push(number)?;
+        if self.known.is_by(map) {
+            self.known.note(bytes, insn.len, number);
+        }
+        Ok(())
     }
 
     /// Puts one in the place of the one with this number. As for `push`, there may be too many that differ.

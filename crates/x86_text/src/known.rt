@@ -1,19 +1,14 @@
 //! Reading instructions, where equal bytes were read before.
 
-ghost use Rattle.std.specs.Prelude.{◌≡◌, ◌++◌, ◌∷◌, ◌-◌, ◌<◌, ◌≤◌, [], Ok, IfErr, IfOk, IfSome, length, drop, take};
+ghost use Rattle.std.specs.Prelude.{◌≡◌, true, ◌-◌, ◌<◌, ◌≤◌, Some, IfOk, IfSome, List, drop, take, slice_get};
 ghost use Rattle.std.specs.Int.{w64, to_le_bytes};
-ghost use Rattle.x86_map.specs.declared.map.Map.{Map as OpcodeMap};
-ghost use Rattle.x86_decode.specs.Decoding.{StandsInFront, decoded};
-ghost use Rattle.x86_text.specs.Code.{read_by, IsBoundary};
-ghost use Rattle.x86_text.specs.Known.{upper_bytes, AreSpellings};
-ghost use Rattle.x86_text.specs.Refused.{IsTextFault};
+ghost use Rattle.operation_defs.specs.declared.insn.Insn.{Insn as AnInsn};
+ghost use Rattle.x86_decode.specs.Decoding.{StandsInFront};
+ghost use Rattle.x86_text.specs.Known.{upper_bytes, AreSpellings, IsKindInFront};
 
-use crate::fault::TextFault;
-use crate::insn_list::InsnList;
-use operation_defs::{Insn, Op};
 use ot_base::NoMemory;
 use std::alloc::Global;
-use x86_decode::{Map, decode};
+use x86_decode::Map;
 
 /// How many places there are for spellings at most.
 const SPELLINGS: usize = 65_536;
@@ -29,9 +24,7 @@ const LENGTHS: usize = 32_768;
 pub(crate) struct Spelling {
     /// Its bytes at the upper end of the number, the first of them lowest, and zeros below.
     pub(crate) front: u64,
-    /// What it does.
-    pub(crate) op: Op,
-    /// The number of such an instruction among those of the list that differ. It is a guess.
+    /// Its number among those of the list that differ.
     pub(crate) number: u32,
     /// How many bytes it has: none before one is noted.
     pub(crate) len: u8,
@@ -44,17 +37,17 @@ pub(crate) struct LongSpelling {
     pub(crate) front: u64,
     /// Its last eight bytes, in the same order. Some are of the first eight too.
     pub(crate) back: u64,
-    /// What it does.
-    pub(crate) op: Op,
-    /// The number of such an instruction among those of the list that differ. It is a guess.
+    /// Its number among those of the list that differ.
     pub(crate) number: u32,
     /// How many bytes it has: none before one is noted.
     pub(crate) len: u8,
 }
 
-/// The spellings that were read last, of those with the same hash.
+/// The spellings by a map that were read last, of those with the same hash.
 #[derive(Drop)]
 pub(crate) struct Known {
+    /// By which map they are read.
+    pub(crate) map: Map,
     /// For each hash of first bytes, how many bytes the last instruction has that was noted of those that begin so. It is a
     /// guess.
     lengths: Vec<u8>,
@@ -65,29 +58,43 @@ pub(crate) struct Known {
 }
 
 impl Known {
-    /// Room for the spellings of a body of so many bytes.
-    pub(crate) fn new(alloc: Global, size: usize) -> Result<Known, NoMemory>
-        ensures { IfOk result (λ known. (map : OpcodeMap) → AreSpellings map known) }
+    /// Room for the spellings by a map of about so many instructions.
+    pub(crate) fn new(alloc: Global, map: Map, count: usize) -> Result<Known, NoMemory>
+        ensures { IfOk result (λ known. (kinds : List AnInsn) → AreSpellings kinds known) }
     {
-        let places = size / 8 + 1;
         let none = Spelling {
             front: 0,
-            op: Op::Plain,
             number: 0,
             len: 0,
         };
         let no_long = LongSpelling {
             front: 0,
             back: 0,
-            op: Op::Plain,
             number: 0,
             len: 0,
         };
         Ok(Known {
-            lengths: vec![in alloc; 0; places.min(LENGTHS)]?,
-            spellings: vec![in alloc; none; places.min(SPELLINGS)]?,
-            long: vec![in alloc; no_long; (size / 64 + 1).min(LONG)]?,
+            map,
+            lengths: vec![in alloc; 0; count.min(LENGTHS)]?,
+            spellings: vec![in alloc; none; count.min(SPELLINGS)]?,
+            long: vec![in alloc; no_long; (count / 8).min(LONG)]?,
         })
+    }
+
+    /// Whether they are read by this map.
+    #[inline(always)]
+    pub(crate) fn is_by(&self, map: Map) -> bool
+        ensures { result ≡ true → self.now.map ≡ map }
+    {
+        matches!(
+            (self.map, map),
+            (Map::Base, Map::Base) | (Map::Whole, Map::Whole)
+        )
+    }
+
+    /// Whether there is room for the spellings by a map of about so many instructions.
+    pub(crate) fn has_room(&self, map: Map, count: usize) -> bool {
+        self.is_by(map) && self.spellings.len() >= count.min(SPELLINGS)
     }
 
     /// Where a spelling with these bytes is kept.
@@ -102,10 +109,10 @@ impl Known {
         place_among(self.long.len(), front ^ back)
     }
 
-    /// The instruction with which the bytes begin, if its spelling is known, and its guessed number.
+    /// The number of the instruction with which the bytes begin, if its spelling is known.
     #[inline(always)]
-    fn find(&self, bytes: &[u8]) -> Option<(Insn, u32)>
-        ensures { (map : OpcodeMap) → AreSpellings map self.now → IfSome result (λ found. StandsInFront map bytes.now found.0) }
+    pub(crate) fn find(&self, bytes: &[u8]) -> Option<u32>
+        ensures { (kinds : List AnInsn) → AreSpellings kinds self.now → IfSome result (IsKindInFront self.now.map kinds bytes.now) }
     {
         let first = first_eight(bytes)?;
         let by_few = self.find_by(bytes, first, few_of(first));
@@ -115,12 +122,12 @@ impl Known {
         self.find_by(bytes, first, four_of(first))
     }
 
-    /// The instruction with which the bytes begin, of which these are the first eight, if its spelling is known and as long
-    /// as the last one that was noted of those that begin with the telling ones.
+    /// The number of the instruction with which the bytes begin, of which these are the first eight, if its spelling is known
+    /// and as long as the last one that was noted of those that begin with the telling ones.
     #[inline(always)]
-    fn find_by(&self, bytes: &[u8], first: u64, telling: u64) -> Option<(Insn, u32)>
+    fn find_by(&self, bytes: &[u8], first: u64, telling: u64) -> Option<u32>
         requires { to_le_bytes w64 first ≡ take 8 bytes.now }
-        ensures { (map : OpcodeMap) → AreSpellings map self.now → IfSome result (λ found. StandsInFront map bytes.now found.0) }
+        ensures { (kinds : List AnInsn) → AreSpellings kinds self.now → IfSome result (IsKindInFront self.now.map kinds bytes.now) }
     {
         let len = *self.lengths.get(place_among(self.lengths.len(), telling))?;
         if len > 8 {
@@ -129,55 +136,47 @@ impl Known {
         let front = upper_of(first, len)?;
         let spelling = *self.spellings.get(self.place_of(front))?;
         if spelling.front == front && spelling.len == len {
-            let op = spelling.op;
-            Some((Insn { len, op }, spelling.number))
+            Some(spelling.number)
         } else {
             None
         }
     }
 
-    /// The instruction of more than eight bytes, so many, with which the bytes begin, of which these are the first eight, if
-    /// its spelling is known.
-    fn find_long(&self, bytes: &[u8], first: u64, len: u8) -> Option<(Insn, u32)>
+    /// The number of the instruction of more than eight bytes, so many, with which the bytes begin, of which these are the
+    /// first eight, if its spelling is known.
+    fn find_long(&self, bytes: &[u8], first: u64, len: u8) -> Option<u32>
         requires { to_le_bytes w64 first ≡ take 8 bytes.now }
-        ensures { (map : OpcodeMap) → AreSpellings map self.now → IfSome result (λ found. StandsInFront map bytes.now found.0) }
+        ensures { (kinds : List AnInsn) → AreSpellings kinds self.now → IfSome result (IsKindInFront self.now.map kinds bytes.now) }
     {
         let back = last_eight(bytes, len)?;
         let spelling = *self.long.get(self.long_place_of(first, back))?;
         if spelling.front == first && spelling.back == back && spelling.len == len {
-            let op = spelling.op;
-            Some((Insn { len, op }, spelling.number))
+            Some(spelling.number)
         } else {
             None
         }
     }
 
-    /// Keeps the spelling with which the bytes begin, with the guessed number of its instruction.
-    fn note(&mut self, bytes: &[u8], insn: Insn, number: u32)
-        ensures { (map : OpcodeMap) → AreSpellings map self.old → StandsInFront map bytes.now insn → AreSpellings map self.new }
+    /// Keeps the spelling with which the bytes begin, so many of them, with the number of its instruction.
+    pub(crate) fn note(&mut self, bytes: &[u8], len: u8, number: u32)
+        ensures { (kinds : List AnInsn) (insn : AnInsn) → AreSpellings kinds self.old → slice_get kinds number ≡ Some insn → insn.len ≡ len → StandsInFront self.old.map bytes.now insn → AreSpellings kinds self.new }
     {
         if let Some(first) = first_eight(bytes) {
-            note_length(&mut self.lengths, few_of(first), insn.len);
-            note_length(&mut self.lengths, four_of(first), insn.len);
-            if let Some(front) = upper_of(first, insn.len) {
+            note_length(&mut self.lengths, few_of(first), len);
+            note_length(&mut self.lengths, four_of(first), len);
+            if let Some(front) = upper_of(first, len) {
                 let place = self.place_of(front);
                 if place < self.spellings.len() {
-                    self.spellings[place] = Spelling {
-                        front,
-                        op: insn.op,
-                        number,
-                        len: insn.len,
-                    };
+                    self.spellings[place] = Spelling { front, number, len };
                 }
-            } else if let Some(back) = last_eight(bytes, insn.len) {
+            } else if let Some(back) = last_eight(bytes, len) {
                 let place = self.long_place_of(first, back);
                 if place < self.long.len() {
                     self.long[place] = LongSpelling {
                         front: first,
                         back,
-                        op: insn.op,
                         number,
-                        len: insn.len,
+                        len,
                     };
                 }
             }
@@ -250,39 +249,4 @@ fn four_of(first: u64) -> u64 {
 fn place_among(places: usize, number: u64) -> usize {
     let hash = number.wrapping_mul(0x9E37_79B9_7F4A_7C15) >> 32;
     (hash.wrapping_mul(places as u64) >> 32) as usize
-}
-
-/// Reads the instruction at a boundary of a body, and adds it to a list. It is the one that `decode` gives.
-#[inline(always)]
-pub(crate) fn read_insn(
-    map: Map,
-    body: &[u8],
-    off: usize,
-    known: &mut Known,
-    insns: &mut InsnList,
-) -> Result<Insn, TextFault>
-    requires boundary { IsBoundary (read_by map body.now) off }
-    requires inside { off < length body.now }
-    requires known { AreSpellings map known.old }
-    ensures known { AreSpellings map known.new }
-    ensures insn { IfOk result (λ insn. decoded map (drop off body.now) ≡ Ok insn) }
-    ensures added { IfOk result (λ insn. insns.new ≡ insns.old ++ insn ∷ []) }
-    ensures fault { IfErr result (IsTextFault (read_by map body.now)) }
-{
-    let bytes = &body[off..];
-    if let Some((insn, number)) = known.find(bytes) {
-        insns.push_guessed(insn, number)?;
-        return Ok(insn);
-    }
-    match decode(map, bytes) {
-        Ok(insn) => {
-            insns.push(insn)?;
-            known.note(bytes, insn, insns.last_number());
-            Ok(insn)
-        }
-        Err(why) => {
-            let off = off as u64;
-            Err(TextFault::At { off, why })
-        }
-    }
 }

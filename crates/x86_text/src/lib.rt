@@ -6,12 +6,14 @@ mod fault;
 mod fault_text;
 mod insn_list;
 mod known;
+mod numbered;
 mod placed;
 mod text;
 
 pub use fault::TextFault;
 pub use fault_text::TextFaultText;
 pub use insn_list::{InsnList, hash_of};
+pub use numbered::NumberedInsns;
 pub use operation_defs::{Insn, Op};
 pub use placed::PlacedInsn;
 pub use text::Text;

@@ -1,16 +1,16 @@
-ghost use Rattle.std.specs.Prelude.{◌≡◌, ◌++◌, ◌+◌, ◌^◌, ◌<◌, ◌≤◌, ◌↔◌, ℕ, true, All, [], ◌∷◌, length, drop, filter, slice_get, slice_index_or, slice_range, Contains, is_some, IfOk, IfErr, OnOk, IfSome, IfNone, MatchBool, MatchOption};
+ghost use Rattle.std.specs.Prelude.{◌≡◌, ◌++◌, ◌+◌, ◌^◌, ◌<◌, ◌≤◌, ◌↔◌, ℕ, List, true, All, [], ◌∷◌, length, drop, filter, slice_get, slice_index_or, slice_range, Contains, is_some, IfOk, IfErr, OnOk, IfSome, IfNone, MatchBool, MatchOption};
 ghost use Rattle.std.specs.List.Sorted.{IsNonDecreasingBy};
 ghost use Rattle.x86_decode.specs.Decoding.{StandsInFront};
 ghost use Rattle.x86_text.specs.Code.{may_use_table as may_use_a_table, read_by, code_of, insn_listed, insns_of, offsets_of, table_jumps_of, IsBoundary, IsCode, IsNextBoundary, IsPreviousBoundary, LeadsTo};
 ghost use Rattle.x86_text.specs.declared.placed.PlacedInsn.{PlacedInsn};
 ghost use Rattle.x86_text.specs.Refused.{IsTextFault};
-ghost use Rattle.x86_text.specs.declared.fault.TextFault.TheVariants.{NoMemory};
+ghost use Rattle.operation_defs.specs.declared.insn.Insn.{Insn as InsnValue};
 
 use crate::fault::TextFault;
 use crate::insn_list::InsnList;
-use crate::known::{Known, read_insn};
 use crate::placed::PlacedInsn;
 use operation_defs::{Insn, Op};
+use ot_base::NoMemory;
 use std::alloc::Global;
 use std::marker::Model;
 use x86_decode::{Map, decode};
@@ -52,14 +52,15 @@ impl<'a> Text<'a> {
         ensures insns { OnOk result (insns.new ≡ insns.old ++ insns_of (read_by map body.now)) }
         ensures fault { IfErr result (IsTextFault (read_by map body.now)) }
     {
-        let mut offsets = Vec::new(alloc);
+        // Most instructions have three bytes or more.
+        let mut offsets = Vec::with_capacity(alloc, body.len() / 3)?;
         let mut table_jumps = Vec::new(alloc);
-        let mut known = Known::new(alloc, body.len())?;
+        insns.make_room(alloc, map, body.len())?;
         let mut off = 0usize;
         while off < body.len() {
-            let insn = read_insn(map, body, off, &mut known, insns)?;
+            let insn = insns.read(map, body, off)?;
             offsets.push(off as u32)?;
-            push_table_jump(&mut table_jumps, off as u64, insn)?;
+            push_table_jump(&mut table_jumps, off as u64, insn.op, insns)?;
             off += insn.len as usize;
         }
         Ok(Text {
@@ -198,13 +199,30 @@ fn may_use_table(op: Op) -> bool
     matches!(op, Op::JmpInd { .. } | Op::Jmp { wide: true, .. })
 }
 
-/// Adds the instruction at an offset where it may jump by a table.
-fn push_table_jump(jumps: &mut Vec<PlacedInsn>, off: u64, insn: Insn) -> Result<(), TextFault>
-    ensures added { OnOk result (jumps.new.items ≡ jumps.old.items ++ filter (λ p. may_use_a_table p.insn.op) (record { off = off; insn = insn } ∷ [])) }
-    ensures fault { IfErr result (λ fault. fault ≡ NoMemory) }
+/// Adds the last instruction of a list, which stands at an offset.
+#[inline(never)]
+fn push_last(jumps: &mut Vec<PlacedInsn>, off: u64, insns: &InsnList) -> Result<(), NoMemory>
+    requires { 0 < length insns.now }
+    ensures { (before : List InsnValue) (last : InsnValue) → insns.now ≡ before ++ last ∷ [] → OnOk result (jumps.new.items ≡ jumps.old.items ++ record { off = off; insn = last } ∷ []) }
 {
-    if may_use_table(insn.op) {
-        jumps.push(PlacedInsn { off, insn })?;
+    let insn = insns.get(insns.len() - 1);
+    jumps.push(PlacedInsn { off, insn })?;
+    Ok(())
+}
+
+/// Adds the last instruction of a list, which has this operation and stands at an offset, where it may jump by a table.
+#[inline(always)]
+fn push_table_jump(
+    jumps: &mut Vec<PlacedInsn>,
+    off: u64,
+    op: Op,
+    insns: &InsnList,
+) -> Result<(), NoMemory>
+    requires { 0 < length insns.now }
+    ensures { (before : List InsnValue) (last : InsnValue) → insns.now ≡ before ++ last ∷ [] → last.op ≡ op → OnOk result (jumps.new.items ≡ jumps.old.items ++ filter (λ p. may_use_a_table p.insn.op) (record { off = off; insn = last } ∷ [])) }
+{
+    if may_use_table(op) {
+        push_last(jumps, off, insns)?;
     }
     Ok(())
 }

@@ -7,8 +7,7 @@ use Rattle.program_graph.specs.declared.parts.PointKind.{PointKind}
 use Rattle.point_edges.specs.Entered.{IsEnteredAt}
 use Rattle.point_edges.proofs.Standing.{program_enters}
 use Rattle.control_flow.specs.Listed.{count_of}
-use Rattle.control_flow.specs.Numbers.{IsNumbered}
-use Rattle.control_flow.specs.Points.{AreMade}
+use Rattle.control_flow.specs.Points.{AreMade, HasKind}
 use Rattle.control_flow.proofs.Making.{IsKindAt, kind_at, made_more, none_made}
 use Rattle.control_flow.proofs.points.list_points.Goals as goal
 
@@ -22,7 +21,7 @@ loop-n-init c =
       subst (λ (items : List GraphPoint). AreMade o owners returns rares transfers c.in_ok-table.table.kinds.items items 0) (sym c.in_ok-made.ensures.items)
           (subst (λ (kinds : List PointKind). AreMade o owners returns rares transfers kinds [] 0) (sym c.in_ok-table.ensures.kinds) (none_made o owners returns rares transfers)),
       omega (arith, ap length c.in_ok-table.ensures.kinds),
-      c.in_ok-table.ensures.usual,
+      c.in_ok-table.ensures.usual c.numbered_insns-insns.result.kinds.now,
       c.in_ok-made.ensures.len,
       c.in_ok-made.ensures.exact,
     )
@@ -35,26 +34,26 @@ loop-n-preserved c =
     let rares : List ℕ = c.args.rares.now in
     let transfers : List ℕ = c.args.transfers.now in
     let before : List PointKind = c.loop-n.table.kinds.items in
-    let after : List PointKind = c.number_of.new.self.kinds.items in
+    let after : List PointKind = c.number_kind.new.table.kinds.items in
     let n : ℕ = c.loop-n.n in
-    let k : PointKind = c.in_ok-kind.kind in
-    let x : GraphPoint = c.point_of-point.result in
+    let x : GraphPoint = c.point_of.result in
+    let number : ℕ = c.in_ok-kind.kind in
+    let has = c.in_ok-kind.ensures.numbered in
     let inside : n < count_of o = omega (arith, c.count_points-count.ensures, ap count_of c.places.ensures) in
     let in_may : n < length returns.may_return.items = omega (arith, c.requires.returns.may_return) in
     let in_rares : n < length rares = omega (arith, c.requires.rares) in
     let in_transfers : n < length transfers = omega (arith, c.requires.transfers) in
-    let kind : IsKindAt o owners returns rares transfers n k = kind_at o owners returns rares transfers n k _ _ _ in_may c.index.ensures (get_or_default rares n _ 0 in_rares) (get_or_default transfers n _ 0 in_transfers) c.in_ok-kind.ensures in
-    let numbered : IsNumbered before after k c.in_ok-number.number = c.in_ok-number.ensures.numbered in (
+    let kind : IsKindAt o owners returns rares transfers n has.kind = kind_at o owners returns rares transfers n has.kind _ _ _ in_may c.index.ensures (get_or_default rares n _ 0 in_rares) (get_or_default transfers n _ 0 in_transfers) has.is_kind in (
       subst (λ (items : List GraphPoint). AreMade o owners returns rares transfers after items (n + 1)) (sym c.push_reserved.ensures.items)
-          (made_more o owners returns rares transfers before after k c.in_ok-number.number c.loop-n.made.items n x c.loop-n.invariant.0 numbered kind c.point_of-point.ensures),
-      omega (arith, numbered.short, c.loop-n.invariant.1),
-      c.in_ok-number.ensures.usual,
+          (made_more o owners returns rares transfers before after has.kind number c.loop-n.made.items n x c.loop-n.invariant.0 has.numbered kind c.point_of.ensures),
+      omega (arith, has.numbered.short, c.loop-n.invariant.1),
+      c.in_ok-kind.ensures.usual,
       omega (arith, c.push_reserved.ensures.len, c.loop-n.invariant.3),
       c.push_reserved.ensures.capacity ∙ c.loop-n.invariant.4,
     )
 
-pub kind_of-requires-clause-entered : goal.kind_of-requires-clause-entered
-kind_of-requires-clause-entered c = λ lists.
+pub number_kind-requires-clause-entered : goal.number_kind-requires-clause-entered
+number_kind-requires-clause-entered c = λ lists.
     let o : Coded = c.args.points.now in
     let n : ℕ = c.loop-n.n in
     let entered : List (Option ℕ) = c.args.returns.now.entered.items in

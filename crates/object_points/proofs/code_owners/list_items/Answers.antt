@@ -21,8 +21,8 @@ loop-function-preserved c =
           (one_more P c.loop-function.items.items c.item_of.result c.loop-function.invariant.each here);
     }
 
-pub returns : goal.returns
-returns c =
+pub returns-clause-items : goal.returns-clause-items
+returns-clause-items c =
     let o : Elf = c.args.index.now.elf in
     let fs : List Function = c.args.index.now.functions in
     let items : List CodeOwner = c.loop-function.items.items in
@@ -34,3 +34,6 @@ returns c =
       each = λ i x below at. c.loop-function.invariant.each i x (earlier_item items c.no_item.result x i (omega arith) (subst (λ (xs : List CodeOwner). slice_get xs i ≡ Some x) pushed at));
       last = λ x at. subst (IsItemBy o None None) (last_item items c.no_item.result x (length fs) (sym long) (subst (λ (xs : List CodeOwner). slice_get xs (length fs) ≡ Some x) pushed at)) (c.no_item.ensures o);
     }
+
+pub returns-clause-few : goal.returns-clause-few
+returns-clause-few c = omega (arith, c.in_ok-push-2.ensures.len, c.loop-function.invariant.long, c.loop-function-test.false, c.functions-count.ensures.few)

@@ -1,5 +1,6 @@
-use Rattle.object_points.specs.Functions.{ArePairs}
+use Rattle.std.proofs.Common.{◌≡◌, take}
+use Rattle.object_points.specs.Pairs.{paired}
 use Rattle.object_points.proofs.owner_table.list_owners.Given as goal
 
-abbrev pub invariant-loop-number : goal.invariant-loop-number
-invariant-loop-number l = ArePairs l.places.elf l.index.functions l.owners.items l.number
+abbrev pub invariant-loop-k : goal.invariant-loop-k
+invariant-loop-k l = l.owners.items ≡ paired (take l.k l.items)

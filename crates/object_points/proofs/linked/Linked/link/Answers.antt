@@ -15,7 +15,10 @@ use Rattle.alternatives.specs.Texts.{AscendBySection, text_bytes}
 use Rattle.flow_defs.specs.Code.{alternatives_of, points_of_object, texts_of}
 use Rattle.object_points.specs.KeptCode.{IsKept}
 use Rattle.object_points.proofs.TextsLemmas.{few_alternatives, little_text, texts_ascend}
-use Rattle.object_points.specs.Linked.{site_fault, HasSoundFunctions, IsLinked, IsLinkFault}
+use Rattle.symbols_relocs.specs.declared.fault.IndexFault.{IndexFault}
+use Rattle.symbols_relocs.specs.declared.fault.IndexFault.TheVariants as indices
+use Rattle.symbols_relocs.specs.Faults.{Tells}
+use Rattle.object_points.specs.Linked.{index_fault, site_fault, HasSoundFunctions, HasSpecial, IsLinked, IsLinkFault}
 use Rattle.object_points.proofs.linked.Linked.link.Goals as goal
 
 -- what is built of an object that is linked is kept
@@ -80,4 +83,17 @@ returns-in_err-sites-clause-err c =
     let told : IsLinkFault o (site_fault c.in_err-sites.field-0.0) =
     site_told o c.deref.result.now c.in_ok-special.special.alternatives c.in_err-sites.field-0.0 (c.deref.ensures.value ∙ c.in_ok-texts.ensures.read) (ap (λ s. s.alternatives) c.in_ok-special.ensures.ok) has c.in_err-sites.ensures.err in
     let p = err_from_is_err_and c.from_residual-in_err-sites.result c.from_residual-in_err-sites.ensures.1 in
+    rw (p.1, p.2) told
+
+-- what is told of the functions is told of the object
+index_told : (o : Coded) (fault : IndexFault) → HasSpecial o → Tells o.elf fault → IsLinkFault o (index_fault fault)
+index_told o (indices.Func sym) has first = (has, first)
+index_told o indices.NoMemory has first = tt
+
+pub returns-in_err-index-clause-err : goal.returns-in_err-index-clause-err
+returns-in_err-index-clause-err c =
+    let o : Coded = coded_by c.args.map c.args.object.now in
+    let has : HasSpecial o = record { code = c.in_ok-texts.ensures.code; special = c.in_ok-special.ensures.right } in
+    let told : IsLinkFault o (index_fault c.in_err-index.field-0.0) = index_told o c.in_err-index.field-0.0 has c.in_err-index.ensures.err in
+    let p = err_from_is_err_and c.from_residual-in_err-index.result c.from_residual-in_err-index.ensures.1 in
     rw (p.1, p.2) told

@@ -4,7 +4,7 @@ use Rattle.x86_text.proofs.KnownLemmas.{looked_up, stands_known}
 use Rattle.x86_text.proofs.known.Known.find_by.Goals as goal
 
 pub returns-then-spelling-len : goal.returns-then-spelling-len
-returns-then-spelling-len c = λ map known.
+returns-then-spelling-len c = λ kinds known.
     let s : Spelling = c.in_ok-spelling.field-0.now in
-    stands_known map c.args.bytes.now c.args.first c.in_ok-front.front c.in_ok-len.field-0.now c.requires c.in_ok-front.ensures.1 c.in_ok-front.ensures.2 s (omega (arith, c.if-spelling-front.true)) (omega (arith, c.if-spelling-len.true)) c.in_ok-front.ensures.0
-    (looked_up map c.args.self.now.spellings.items c.deref-2.result.now c.place_of.result s c.deref-2.ensures.value known.short c.in_ok-spelling.ensures.lookup.3.0 c.in_ok-spelling.ensures.lookup.1)
+    stands_known c.args.self.now.map kinds c.args.bytes.now c.args.first c.in_ok-front.front c.in_ok-len.field-0.now c.requires c.in_ok-front.ensures.1 c.in_ok-front.ensures.2 s (omega (arith, c.if-spelling-front.true)) (omega (arith, c.if-spelling-len.true)) c.in_ok-front.ensures.0
+    (looked_up c.args.self.now.map kinds c.args.self.now.spellings.items c.deref-2.result.now c.place_of.result s c.deref-2.ensures.value known.short c.in_ok-spelling.ensures.lookup.3.0 c.in_ok-spelling.ensures.lookup.1)
