@@ -71,5 +71,6 @@ pub(crate) fn read_texts<'a>(
             texts.push(SectionText { sec, text })?;
         }
     }
+    insns.forget_spellings();
     Ok(ObjectTexts { texts, insns })
 }

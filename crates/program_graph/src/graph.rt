@@ -1,6 +1,6 @@
 //! A graph and its getters.
 
-ghost use Rattle.std.specs.Prelude.{◌≡◌, ◌+◌, ◌<◌, ◌≤◌, ◌↔◌, ◌∷◌, [], None, Some, false, ℕ, All, Contains, IfSome, IsSome, IsTrue, MatchOption, length, map, slice_get, slice_range};
+ghost use Rattle.std.specs.Prelude.{◌≡◌, ◌+◌, ◌<◌, ◌≤◌, ◌↔◌, ◌∷◌, [], None, Some, false, true, ℕ, All, Contains, IfSome, IsSome, IsTrue, MatchOption, length, map, slice_get, slice_range};
 ghost use Rattle.machine_defs.specs.Program.{Program, no_marks};
 ghost use Rattle.machine_defs.specs.Kept.{edges_of, is_at_entry};
 ghost use Rattle.program_graph.specs.Shape.{HaveShape, IsAlike, IsKindOf, listed_of, start_of};
@@ -18,6 +18,14 @@ use machine_defs::{Edge, EdgeKind, Marks, Role};
 use operation_defs::{Insn, Op};
 use ot_base::Place;
 use state_defs::HintState;
+
+/// Whether an edge is one of a jump table.
+#[inline(always)]
+fn is_of_table(kind: EdgeKind) -> bool
+    ensures { kind ≡ EdgeKind.Table → result ≡ true }
+{
+    matches!(kind, EdgeKind::Table)
+}
 
 /// The control-flow graph of a program. Points are told by their numbers, from 0 on.
 ///
@@ -371,6 +379,23 @@ impl Graph {
     /// The edge along which control goes from a point, where it is the only one.
     #[inline(always)]
     pub fn only_edge(&self, n: u32) -> Option<Edge>
+        requires { n < length self.now.parts.points.items }
+        ensures edges { IfSome result (λ edge. (p : Program) → Tells p self.now.parts → edges_of p n ≡ edge ∷ []) }
+        ensures within { IfSome result (λ edge. edge.to < length self.now.parts.points.items) }
+    {
+        let edges = self.listed(n);
+        if edges.len() != 1 {
+            return None;
+        }
+        if is_of_table(edges[0].kind) {
+            return self.only_table_edge(n);
+        }
+        Some(edges[0])
+    }
+
+    /// The same, where the only edge that is listed of the point is one of a jump table, or leads to the point whose edges it has.
+    #[inline(never)]
+    fn only_table_edge(&self, n: u32) -> Option<Edge>
         requires { n < length self.now.parts.points.items }
         ensures edges { IfSome result (λ edge. (p : Program) → Tells p self.now.parts → edges_of p n ≡ edge ∷ []) }
         ensures within { IfSome result (λ edge. edge.to < length self.now.parts.points.items) }

@@ -26,7 +26,7 @@ const HALF: usize = 512;
 /// A list of instructions, of which equal ones mostly stand once. Contracts see it as the list.
 ///
 /// An instruction of the list takes 4 bytes, and one that isn't equal to another 24 more. The spellings take about 5 bytes
-/// for each byte of code that was read at most, and never more than 1.2 MB.
+/// for each byte of code that was read at most, and never more than 1.2 MB, until they are forgotten.
 #[derive(Drop)]
 pub struct InsnList {
     /// The instructions that came, each once or, rarely, more often.
@@ -61,7 +61,7 @@ impl InsnList {
             kinds: Vec::new(alloc),
             numbers: Vec::new(alloc),
             recent: vec![in alloc; 0; 2 * HALF]?,
-            known: Known::new(alloc, Map::Base, 0)?,
+            known: Known::none(alloc, Map::Base),
         })
     }
 
@@ -110,6 +110,13 @@ impl InsnList {
             self.known = Known::new(alloc, map, count.saturating_mul(2))?;
         }
         Ok(())
+    }
+
+    /// Forgets the spellings of what was read, and gives their memory back.
+    pub fn forget_spellings(&mut self)
+        ensures { self.new ≡ self.old }
+    {
+        self.known = Known::none(*self.kinds.allocator(), Map::Base);
     }
 
     /// Reads the instruction at a boundary of a body by a map, and adds it. It is the one that `decode` gives.

@@ -58,6 +58,18 @@ pub(crate) struct Known {
 }
 
 impl Known {
+    /// Room for none.
+    pub(crate) fn none(alloc: Global, map: Map) -> Known
+        ensures { (kinds : List AnInsn) → AreSpellings kinds result }
+    {
+        Known {
+            map,
+            lengths: Vec::new(alloc),
+            spellings: Vec::new(alloc),
+            long: Vec::new(alloc),
+        }
+    }
+
     /// Room for the spellings by a map of about so many instructions.
     pub(crate) fn new(alloc: Global, map: Map, count: usize) -> Result<Known, NoMemory>
         ensures { IfOk result (λ known. (kinds : List AnInsn) → AreSpellings kinds known) }

@@ -59,7 +59,7 @@ pub returns-clause-insns : goal.returns-clause-insns
 returns-clause-insns c =
     let o : Coded = coded_by c.args.map c.args.object.now in
     let whole : c.loop-sec.sec ≡ length o.elf.sections = omega (arith, c.loop-sec-test.false, c.loop-sec.auto.sec-end, c.sections-sec-end.ensures.value) in
-    c.loop-sec.invariant.insns ∙ ap (λ n. plain_insns (texts_below o n)) whole ∙ ap plain_insns (all_texts o)
+    c.forget_spellings.ensures ∙ c.loop-sec.invariant.insns ∙ ap (λ n. plain_insns (texts_below o n)) whole ∙ ap plain_insns (all_texts o)
 
 pub returns-clause-code : goal.returns-clause-code
 returns-clause-code c =
