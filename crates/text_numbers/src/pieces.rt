@@ -60,16 +60,16 @@ fn place_of<'a>(
 }
 
 impl<'a> Pieces<'a> {
-    /// The empty text of a table alone.
-    pub(crate) fn new(alloc: Global, table: &'a [u8]) -> Pieces<'a>
+    /// The empty text of a table alone, with room for one in each 64 bytes.
+    pub(crate) fn new(alloc: Global, table: &'a [u8]) -> Result<Pieces<'a>, NoMemory>
         requires { length table.now < 2 ^ 32 }
-        ensures table { result.table ≡ table.now }
-        ensures texts { result.texts ≡ [] ∷ [] }
+        ensures table { IfOk result (λ pieces. pieces.table ≡ table.now) }
+        ensures texts { IfOk result (λ pieces. pieces.texts ≡ [] ∷ []) }
     {
-        Pieces {
+        Ok(Pieces {
             table,
-            places: IndexMap::new(alloc),
-        }
+            places: IndexMap::with_capacity(alloc, table.len() / 64)?,
+        })
     }
 
     /// The table.
