@@ -40,25 +40,31 @@ pub(crate) fn rela_header(headers: &Headers, relas: &[Option<u32>], sec: u32) ->
     header_or_null(headers, relas[sec as usize])
 }
 
+/// Whether so many bytes from an offset on lie in a section of this size.
+#[inline(always)]
+fn is_inside(offset: u64, width: u64, size: u64) -> bool
+    ensures { IsTrue result ↔ offset + width ≤ size }
+{
+    width <= size && offset <= size - width
+}
+
 /// Whether a relocation names a symbol, and its field lies in a section of this size.
+#[inline(always)]
 fn is_reloc(reloc: Reloc, symbols: u64, target_size: u64) -> bool
     ensures { IsTrue result ↔ IsRelocOf reloc symbols target_size }
 {
-    let end = u128::from(reloc.offset)
-        + match reloc.kind {
-            R_X86_64_64 => 8,
-            _ => 4,
-        };
     u64::from(reloc.sym) < symbols
         && match reloc.kind {
-            R_X86_64_64 | R_X86_64_PC32 | R_X86_64_PLT32 | R_X86_64_32 | R_X86_64_32S => {
-                end <= u128::from(target_size)
+            R_X86_64_64 => is_inside(reloc.offset, 8, target_size),
+            R_X86_64_PC32 | R_X86_64_PLT32 | R_X86_64_32 | R_X86_64_32S => {
+                is_inside(reloc.offset, 4, target_size)
             }
             _ => true,
         }
 }
 
 /// Whether each relocation of a section is one, in ascending order.
+#[inline(never)]
 fn check_relocs_of(symbols: &Symbols, i: u32, h: &SectionHeader) -> Result<(), ElfFault>
     requires header { h.now ≡ section_header (symbols_file symbols.now) i }
     requires inside { h.now.offset + h.now.size ≤ length (symbols_file symbols.now) }

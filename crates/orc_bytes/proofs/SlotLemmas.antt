@@ -1,14 +1,14 @@
 -- One more row at the end of the bodies.
-use Rattle.std.proofs.Common.{append-nil, ◌≤◌, replicate, ◌≡◌, ℕ, ◌+◌, ◌*◌, ◌<◌, List, [], ◌∷◌, ◌++◌, map, length, take, get_or, Option, refl, ◌∙◌, ap, arith}
+use Rattle.std.proofs.Common.{append-nil, ◌≤◌, ◌≡◌, ℕ, ◌+◌, ◌*◌, ◌<◌, List, [], ◌∷◌, ◌++◌, map, length, take, get_or, Option, refl, ◌∙◌, ap, arith}
 use Rattle.std.specs.Prelude.{flat_map}
 use Rattle.std.specs.List.{enumerate_from}
-use Rattle.std.proofs.lemmas.List.{take_more, length-take, length-replicate, replicate-append-replicate}
+use Rattle.std.proofs.lemmas.List.{take_more, length-take}
 use Rattle.std.proofs.lemmas.List.Concat.{flat_map-append}
 use Rattle.ot_base.specs.declared.row.PlacedRow.{PlacedRow}
 use Rattle.elf_objects.specs.declared.symbol.Reloc.{Reloc}
 use Rattle.orc_bytes.specs.RowBytes.{bytes_of_row}
 use Rattle.orc_bytes.specs.RelocBytes.{bytes_of_reloc}
-use Rattle.orc_bytes.specs.Sections.{row_section, ip_section, slot, slots, rela_section}
+use Rattle.orc_bytes.specs.Sections.{row_section, slot, slots, rela_section}
 
 enumerate_from-push : {X : Type 0} (n : ℕ) (xs : List X) (x : X) → enumerate_from n (xs ++ x ∷ []) ≡ enumerate_from n xs ++ (n + length xs, x) ∷ []
 enumerate_from-push n [] x = ap (λ (k : ℕ). (k, x) ∷ []) (omega arith)
@@ -37,7 +37,7 @@ rela_section-push section_symbol rows placed =
 front_length : (rows : List PlacedRow) (i : ℕ) → i ≤ length rows → length (take i rows) ≡ i
 front_length rows i h = let e = length-take i rows in omega (arith, e)
 
--- the loop's step for each of the bodies
+-- a loop's step for each of the bodies
 pub row_more : (rows : List PlacedRow) (i : ℕ) (d : PlacedRow) (old new piece : List ℕ) → i < length rows → old ≡ row_section (take i rows) → new ≡ old ++ piece → piece ≡ bytes_of_row (get_or rows i d).row → new ≡ row_section (take (i + 1) rows)
 row_more rows i d old new piece h was is of =
     let front = take_more rows i d h in
@@ -46,15 +46,10 @@ row_more rows i d old new piece h was is of =
     ∙ ap (λ bytes. row_section (take i rows) ++ bytes) (append-nil (bytes_of_row (get_or rows i d).row)) in
     rw (is, was, of, front, joined) refl
 
-pub ip_more : (rows : List PlacedRow) (i : ℕ) (old new : List ℕ) → i < length rows → old ≡ ip_section (take i rows) → new ≡ old ++ replicate 4 0 → new ≡ ip_section (take (i + 1) rows)
-ip_more rows i old new h was is =
-    let here = front_length rows i (omega arith) in
-    let next = front_length rows (i + 1) (omega arith) in
-    is ∙ ap (λ bytes. bytes ++ replicate 4 0) was ∙ replicate-append-replicate (4 * length (take i rows)) 4 0 ∙ ap (λ (n : ℕ). replicate n 0) (omega (arith, here, next))
-
-pub rela_more : (section_symbol : ℕ → Option ℕ) (rows : List PlacedRow) (i at : ℕ) (d : PlacedRow) (old new piece ip : List ℕ) (reloc : Reloc) → i < length rows → old ≡ rela_section section_symbol (take i rows) → new ≡ old ++ piece → piece ≡ bytes_of_reloc reloc → reloc ≡ slot section_symbol at (get_or rows i d) → at ≡ length ip → ip ≡ ip_section (take i rows) → new ≡ rela_section section_symbol (take (i + 1) rows)
-rela_more section_symbol rows i at d old new piece ip reloc h was is of slot_is at_is ip_is =
+pub rela_more : (section_symbol : ℕ → Option ℕ) (rows : List PlacedRow) (i at : ℕ) (d : PlacedRow) (old new piece : List ℕ) (reloc : Reloc) → i < length rows → old ≡ rela_section section_symbol (take i rows) → new ≡ old ++ piece → piece ≡ bytes_of_reloc reloc → reloc ≡ slot section_symbol at (get_or rows i d) → at ≡ 4 * i → new ≡ rela_section section_symbol (take (i + 1) rows)
+rela_more section_symbol rows i at d old new piece reloc h was is of slot_is at_is =
     let front = take_more rows i d h in
-    let place : at ≡ 4 * length (take i rows) = at_is ∙ ap length ip_is ∙ length-replicate (4 * length (take i rows)) 0 in
+    let count = front_length rows i (omega (arith, h)) in
+    let place : at ≡ 4 * length (take i rows) = omega (arith, at_is, count) in
     let joined = rela_section-push section_symbol (take i rows) (get_or rows i d) in
     rw (is, was, of, slot_is, place, front, joined) refl

@@ -2,6 +2,7 @@
 
 ghost use Rattle.std.specs.Prelude.{◌≡◌, All, IfOk};
 ghost use Rattle.elf_objects.specs.Contents.{section_symbol_of};
+ghost use Rattle.orc_bytes.specs.RowBytes.{IsRow};
 ghost use Rattle.orc_bytes.specs.Sections.{IsRowOf, row_section, ip_section, rela_section, slot};
 
 use crate::relocs::reloc_bytes;
@@ -35,16 +36,37 @@ pub fn encode(
     ensures rela { IfOk result
         (λ sections. sections.rela.items ≡ rela_section (section_symbol_of object.now) rows.now) }
 {
-    let mut orc = Vec::new(alloc);
-    let mut ip = Vec::new(alloc);
-    let mut rela = Vec::new(alloc);
+    Ok(OrcSections {
+        orc: row_body(alloc, rows)?,
+        ip: vec![in alloc; 0; 4 * rows.len()]?,
+        rela: rela_body(alloc, object, rows)?,
+    })
+}
+
+/// The body of `.orc_unwind`.
+fn row_body(alloc: Global, rows: &[PlacedRow]) -> Result<Vec<u8>, NoMemory>
+    requires { All (λ placed. IsRow placed.row) rows.now }
+    ensures { IfOk result (λ body. body.items ≡ row_section rows.now) }
+{
+    let mut body = Vec::with_capacity(alloc, 6 * rows.len())?;
     for placed in rows {
-        let slot = slot_of(object, ip.len() as u64, placed);
-        orc.extend_from_slice(&row_bytes(&placed.row))?;
-        rela.extend_from_slice(&reloc_bytes(&slot))?;
-        ip.extend_from_slice(&[0; 4])?;
+        body.extend_from_slice(&row_bytes(&placed.row))?;
     }
-    Ok(OrcSections { orc, ip, rela })
+    Ok(body)
+}
+
+/// The body of `.rela.orc_unwind_ip`.
+fn rela_body(alloc: Global, object: &Object<'_>, rows: &[PlacedRow]) -> Result<Vec<u8>, NoMemory>
+    requires { All (IsRowOf object.now) rows.now }
+    ensures { IfOk result (λ body. body.items ≡ rela_section (section_symbol_of object.now) rows.now) }
+{
+    let mut body = Vec::with_capacity(alloc, 24 * rows.len())?;
+    let mut offset = 0;
+    for placed in rows {
+        body.extend_from_slice(&reloc_bytes(&slot_of(object, offset, placed)))?;
+        offset += 4;
+    }
+    Ok(body)
 }
 
 /// The relocation of a row's four bytes, which begin at this offset of `.orc_unwind_ip`.

@@ -5,10 +5,14 @@ ghost use Rattle.ot_files.specs.Causes.{raised};
 use crate::access::{FileError, Files};
 use crate::replacing::replace;
 use std::alloc::Global;
+use std::fs::OpenFile;
 use std::io::{ErrorKind, Read};
 use std::marker::Model;
 use std::rt::Files as SystemFiles;
 use std::{fs, io};
+
+/// How many bytes are read at once.
+const PIECE_BYTES: usize = 8192;
 
 /// The files of the system that a runtime reaches. They tell no content, and count each call that
 /// fails; a file that is missing or too long is no failure. A file gets new content in one step
@@ -50,6 +54,30 @@ impl<R: SystemFiles> StdFiles<R> {
     }
 }
 
+/// Makes room for the bytes that a file says it has, at most `limit`. Where it says nothing, or there is too little memory, room is
+/// made as they come.
+fn reserve_said<F: OpenFile>(file: &F, limit: u64, into: &mut Vec<u8>)
+    ensures { into.new.items ≡ into.old.items }
+{
+    if let Ok(said) = file.metadata() {
+        let _ = into.reserve_exact(said.len().min(limit) as usize);
+    }
+}
+
+/// Adds what a reader still gives.
+fn read_rest<R: Read>(reader: &mut R, into: &mut Vec<u8>) -> io::Result<()> {
+    let mut piece = [0; PIECE_BYTES];
+    for _ in 0..u64::MAX {
+        match reader.read(&mut piece) {
+            Ok(0) => return Ok(()),
+            Ok(count) => into.extend_from_slice(&piece[..count])?,
+            Err(e) if e.kind() == ErrorKind::Interrupted => {}
+            Err(e) => return Err(e),
+        }
+    }
+    Err(io::Error::from(ErrorKind::TimedOut))
+}
+
 impl<R: SystemFiles> Files for StdFiles<R> {
     ghost content = { λ _. None };
 
@@ -62,10 +90,11 @@ impl<R: SystemFiles> Files for StdFiles<R> {
             Err(e) if e.kind() == ErrorKind::NotFound => return Err(FileError::Missing),
             Err(_) => return Err(self.fault()),
         };
+        reserve_said(&file, limit, into);
         let mut reader = file.take(limit.saturating_add(1));
-        let error = match io::copy(&mut reader, into) {
-            Ok(_) if into.len() as u64 <= limit => return Ok(()),
-            Ok(_) => FileError::TooLong { limit },
+        let error = match read_rest(&mut reader, into) {
+            Ok(()) if into.len() as u64 <= limit => return Ok(()),
+            Ok(()) => FileError::TooLong { limit },
             Err(e) if e.kind() == ErrorKind::OutOfMemory => FileError::NoMemory,
             Err(_) => self.fault(),
         };

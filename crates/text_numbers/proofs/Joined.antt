@@ -1,6 +1,6 @@
 -- Texts that are pieces before other texts.
-use Rattle.std.proofs.Common.{◌≡◌, ◌⊎◌, inl, inr, ℕ, zero, suc, ◌+◌, ◌-◌, ◌^◌, ◌<◌, ◌≤◌, ◌%◌, Bool, true, false, ◌&&◌, ◌==◌, List, [], ◌∷◌, ◌++◌, map, length, length-take, length-drop, take, drop, bytes_eq, slice_get, slice_range, get_or, MatchOption, Option, None, Some, is_some, refl, sym, ap, subst, ◌∙◌, arith}
-use Rattle.std.specs.List.{list_any, position}
+use Rattle.std.proofs.Common.{◌≡◌, ◌⊎◌, inl, inr, ℕ, zero, suc, ◌+◌, ◌-◌, ◌^◌, ◌<◌, ◌≤◌, ◌%◌, Bool, true, false, ◌&&◌, ◌||◌, not, cond, nat_lt, ◌==◌, List, [], ◌∷◌, ◌++◌, map, length, length-take, length-drop, take, drop, bytes_eq, slice_get, slice_range, get_or, None, Some, refl, sym, ap, subst, ◌∙◌, arith}
+use Rattle.std.specs.List.{list_any, position, position_or_len}
 use Rattle.std.specs.Map.{keys_of}
 use Rattle.std.proofs.Math.Seq.{take-append-add, take-append_seam}
 use Rattle.std.proofs.lemmas.Bool.{eqb-true}
@@ -8,11 +8,9 @@ use Rattle.std.proofs.lemmas.Bool.Decides.{nat_tests}
 use Rattle.std.proofs.lemmas.List.{append_cancel_left, get_or_push, length-append, length-map, length_push, map-append}
 use Rattle.std.proofs.lemmas.List.Folds.{drop_split, list_any_at}
 use Rattle.std.proofs.lemmas.List.Quantifiers.{position-Some}
-use Rattle.std.proofs.lemmas.Map.Made.{is_some-lookup}
 use Rattle.std.proofs.lemmas.Option.{none-some, same_Some, slice_get-get_or, slice_get_read, slice_get_within}
 use Rattle.std.proofs.lemmas.Slice.Eq.{bytes_eq-Decides}
-use Rattle.indexmap.specs.IndexMap.{IndexMap, get, insert_entry}
-use Rattle.indexmap.proofs.CallerLemmas.{insert_entry-new}
+use Rattle.indexmap.specs.IndexMap.{insert_entry}
 use Rattle.text_numbers.specs.declared.marks.Mark.{Mark}
 use Rattle.text_numbers.specs.declared.piece.Piece.{Piece}
 use Rattle.text_numbers.specs.declared.piece.Span.{Span}
@@ -78,17 +76,67 @@ same_true p q b r =
     let s : (p.rest == q.rest) ≡ true = grind (arith, nat_tests) in
     both_true (bytes_eq p.bytes.now q.bytes.now) (p.rest == q.rest) ((bytes_eq-Decides p.bytes.now q.bytes.now).1 b) s
 
-none_of : {X : Type 0} (o : Option X) → is_some o ≡ false → o ≡ None
-none_of None h = refl
-none_of (Some x) h = cc
+or_false : (x y : Bool) → (x || y) ≡ false → (x ≡ false) × (y ≡ false)
+or_false true y h = cc
+or_false false y h = (refl, h)
 
-pub found_or_not : {S : Type 0} (m : IndexMap Piece Span S) (piece : Piece) (r : Option ℕ) → r ≡ position (is_same piece) (keys_of m.entries) → is_some r ≡ is_some (get is_same m piece) → MatchOption r (list_any (is_same piece) (keys_of m.entries) ≡ false) (λ i. position (is_same piece) (keys_of m.entries) ≡ Some i)
-found_or_not m piece None e f = sym (is_some-lookup (is_same piece) m.entries) ∙ sym f
-found_or_not m piece (Some i) e f = sym e
+-- ---- where a piece is put
 
--- a piece that isn't there goes last
-pub at_end : {S : Type 0} (m : IndexMap Piece Span S) (piece : Piece) (span : Span) → list_any (is_same piece) (keys_of m.entries) ≡ false → insert_entry is_same m.entries piece span ≡ m.entries ++ (piece, span) ∷ []
-at_end m piece span none = insert_entry-new is_same m piece span (none_of (get is_same m piece) (is_some-lookup (is_same piece) m.entries ∙ none))
+module _ (piece : Piece) where
+  at_end : (b : Bool) (xs : List Piece) (n : ℕ) → n ≡ length xs → b ≡ false → cond (not b) (1 + n) 0 ≡ length xs + 1
+  at_end true xs n e h = cc
+  at_end false xs n e h = omega (arith, e)
+
+  -- the place of a piece that isn't there
+  none_before : (xs : List Piece) → list_any (is_same piece) xs ≡ false → position_or_len (is_same piece) xs ≡ length xs
+  none_before [] h = refl
+  none_before (x ∷ xs) h =
+      let parts = or_false (is_same piece x) (list_any (is_same piece) xs) h in
+      at_end (is_same piece x) xs (position_or_len (is_same piece) xs) (none_before xs parts.1) parts.0 ∙ omega arith
+
+  is_low : (b any : Bool) (n l : ℕ) → (any ≡ true → n < l) → (b || any) ≡ true → cond (not b) (1 + n) 0 < 1 + l
+  is_low true any n l f h = omega arith
+  is_low false any n l f h = let r = f h in omega (arith, r)
+
+  -- that of one that is
+  one_before : (xs : List Piece) → list_any (is_same piece) xs ≡ true → position_or_len (is_same piece) xs < length xs
+  one_before [] h = absurd (false-true h)
+  one_before (x ∷ xs) h =
+      let low = is_low (is_same piece x) (list_any (is_same piece) xs) (position_or_len (is_same piece) xs) (length xs) (one_before xs) h in
+      omega (arith, low)
+
+  module _ (span : Span) where
+    put_new : (b : Bool) (e : Piece × Span) (es : List (Piece × Span)) → b ≡ false → cond b ((e.0, span) ∷ es) (e ∷ es ++ (piece, span) ∷ []) ≡ e ∷ es ++ (piece, span) ∷ []
+    put_new true e es h = cc
+    put_new false e es h = refl
+
+    -- a piece that isn't there goes last
+    goes_last : (es : List (Piece × Span)) → list_any (is_same piece) (keys_of es) ≡ false → insert_entry is_same es piece span ≡ es ++ (piece, span) ∷ []
+    goes_last [] h = refl
+    goes_last (e ∷ es) h =
+        let parts = or_false (is_same piece e.0) (list_any (is_same piece) (keys_of es)) h in
+        ap (λ l. cond (is_same piece e.0) ((e.0, span) ∷ es) (e ∷ l)) (goes_last es parts.1) ∙ put_new (is_same piece e.0) e es parts.0
+
+    module _ (table : List ℕ) where
+      abbrev texts : List (Piece × Span) → List (List ℕ)
+      texts es = map (λ (p : Piece × Span). slice_range table p.1.start p.1.end) es
+
+      abbrev AreSame : List (Piece × Span) → List (Piece × Span) → Type 0
+      AreSame new old = (keys_of new ≡ keys_of old) × (texts new ≡ texts old)
+
+      put : (b : Bool) (e : Piece × Span) (es rest : List (Piece × Span)) (n : ℕ) → (slice_get (texts es) n ≡ Some (slice_range table span.start span.end) → AreSame rest es) → slice_get (texts (e ∷ es)) (cond (not b) (1 + n) 0) ≡ Some (slice_range table span.start span.end) → AreSame (cond b ((e.0, span) ∷ es) (e ∷ rest)) (e ∷ es)
+      put true e es rest n f h = (refl, ap (λ t. t ∷ texts es) (sym (same_Some (slice_range table e.1.start e.1.end) (slice_range table span.start span.end) h)))
+      put false e es rest n f h =
+          let up : 1 + n ≡ suc n = omega arith in
+          let r = f (subst (λ k. slice_get (texts (e ∷ es)) k ≡ Some (slice_range table span.start span.end)) up h) in
+          (ap (λ l. e.0 ∷ l) r.0, ap (λ l. slice_range table e.1.start e.1.end ∷ l) r.1)
+
+      -- another place of its text may stand for that of a piece
+      stays : (es : List (Piece × Span)) → slice_get (texts es) (position_or_len (is_same piece) (keys_of es)) ≡ Some (slice_range table span.start span.end) → AreSame (insert_entry is_same es piece span) es
+      stays [] h = absurd (none-some (slice_range table span.start span.end) h)
+      stays (e ∷ es) h = put (is_same piece e.0) e es (insert_entry is_same es piece span) (position_or_len (is_same piece) (keys_of es)) (stays es) h
+
+-- ---- a piece more
 
 made_kept : (old new : List (List ℕ)) (p : Piece) (text : List ℕ) → AreKept old new → IsMade old p text → IsMade new p text
 made_kept old new p text kept m = record {
@@ -214,6 +262,12 @@ module _ (table : List ℕ) (es : List (Piece × Span)) where
           made = all_made;
         }
 
+-- pieces with the text from one place to another among them, which has the number behind i, and no other text's number changed
+pub record Inserted (table : List ℕ) (es : List (Piece × Span)) (start end : ℕ) (new : List (Piece × Span)) (i : ℕ) : Type 0 where
+  pub pieces : ArePieces table new
+  pub text : slice_get (texts_of table new) (i + 1) ≡ Some (slice_range table start end)
+  pub kept : AreKept (texts_of table es) (texts_of table new)
+
 module _ (table : List ℕ) (es : List (Piece × Span)) (w : ArePieces table es) (start mid end : ℕ) (some : start < mid) (few : mid ≤ start + 64) (order : mid ≤ end) (inside : end ≤ length table) (whole : (end - mid) % 64 ≡ 0) (piece : Piece) (bytes : piece.bytes.now ≡ slice_range table start mid) (has : slice_get (texts_of table es) piece.rest ≡ Some (slice_range table mid end)) where
   length_piece : length piece.bytes.now ≡ mid - start
   length_piece = ap (λ (t : List ℕ). length t) bytes ∙ length_range table start mid (omega arith)
@@ -224,15 +278,64 @@ module _ (table : List ℕ) (es : List (Piece × Span)) (w : ArePieces table es)
   joined : slice_range table start end ≡ piece.bytes.now ++ slice_range table mid end
   joined = range_join table start mid end (omega arith) order inside ∙ ap (λ t. t ++ slice_range table mid end) (sym bytes)
 
-  pub join_found : (i : ℕ) → position (is_same piece) (keys_of es) ≡ Some i → slice_get (texts_of table es) (i + 1) ≡ Some (slice_range table start end)
+  join_found : (i : ℕ) → position (is_same piece) (keys_of es) ≡ Some i → slice_get (texts_of table es) (i + 1) ≡ Some (slice_range table start end)
   join_found i e =
       let l = length_piece in
       found_text table es w piece (slice_range table mid end) has whole_rest (omega (arith, l)) (omega (arith, l)) i e ∙ ap Some (sym joined)
 
-  pub join_pieces : list_any (is_same piece) (keys_of es) ≡ false → length es + 2 < 2 ^ 32 → ArePieces table (es ++ (piece, record { start = start; end = end }) ∷ [])
+  join_pieces : list_any (is_same piece) (keys_of es) ≡ false → length es + 2 < 2 ^ 32 → ArePieces table (es ++ (piece, record { start = start; end = end }) ∷ [])
   join_pieces none room =
       let l = length_piece in
       new_pieces table es w piece (slice_range table mid end) has whole_rest (omega (arith, l)) (omega (arith, l)) none (record { start = start; end = end }) joined room
+
+  module _ (room : length es + 2 < 2 ^ 32) where
+    last : list_any (is_same piece) (keys_of es) ≡ false → Inserted table es start end (insert_entry is_same es piece (record { start = start; end = end })) (position_or_len (is_same piece) (keys_of es))
+    last none =
+        let span : Span = record { start = start; end = end } in
+        let t = length_texts table es in
+        let k = length-map es (λ (p : Piece × Span). p.0) in
+        let at = none_before piece (keys_of es) none in
+        subst (λ new. Inserted table es start end new (position_or_len (is_same piece) (keys_of es))) (sym (goes_last piece span es none)) (record {
+          pieces = join_pieces none room;
+          text = last_text table es (piece, span) (position_or_len (is_same piece) (keys_of es) + 1) (omega (arith, t, k, at));
+          kept = more_kept table es (piece, span);
+        })
+
+    same : list_any (is_same piece) (keys_of es) ≡ true → Inserted table es start end (insert_entry is_same es piece (record { start = start; end = end })) (position_or_len (is_same piece) (keys_of es))
+    same one =
+        let span : Span = record { start = start; end = end } in
+        let i : ℕ = position_or_len (is_same piece) (keys_of es) in
+        let new : List (Piece × Span) = insert_entry is_same es piece span in
+        let low : i < length (keys_of es) = one_before piece (keys_of es) one in
+        let test : nat_lt i (length (keys_of es)) ≡ true = grind (arith, nat_tests) in
+        let found : position (is_same piece) (keys_of es) ≡ Some i = ap (λ (b : Bool). cond b (Some i) None) test in
+        let text : slice_get (texts_of table es) (i + 1) ≡ Some (slice_range table start end) = join_found i found in
+        let up : i + 1 ≡ suc i = omega arith in
+        let both = stays piece span table es (subst (λ n. slice_get (texts_of table es) n ≡ Some (slice_range table start end)) up text) in
+        let texts : texts_of table new ≡ texts_of table es = ap (λ l. [] ∷ l) both.1 in
+        let n = length-map new (λ (p : Piece × Span). p.0) in
+        let k = length-map es (λ (p : Piece × Span). p.0) in
+        let l = ap (λ (xs : List Piece). length xs) both.0 in
+        record {
+          pieces = record {
+            short = w.short;
+            few = omega (arith, w.few, n, k, l);
+            different = subst AreDifferent (sym texts) w.different;
+            made = λ j p t a b.
+                let a' = subst (λ keys. slice_get keys j ≡ Some p) both.0 a in
+                let b' = subst (λ ts. slice_get ts (j + 1) ≡ Some t) texts b in
+                subst (λ ts. IsMade ts p t) (sym texts) (w.made j p t a' b');
+          };
+          text = subst (λ ts. slice_get ts (i + 1) ≡ Some (slice_range table start end)) (sym texts) text;
+          kept = λ j t e. subst (λ ts. slice_get ts j ≡ Some t) (sym texts) e;
+        }
+
+    pub inserted : Inserted table es start end (insert_entry is_same es piece (record { start = start; end = end })) (position_or_len (is_same piece) (keys_of es))
+    inserted = by (list_any (is_same piece) (keys_of es)) refl
+      where
+        by : (b : Bool) → list_any (is_same piece) (keys_of es) ≡ b → Inserted table es start end (insert_entry is_same es piece (record { start = start; end = end })) (position_or_len (is_same piece) (keys_of es))
+        by true h = same h
+        by false h = last h
 
 pub no_pieces : (table : List ℕ) → length table < 2 ^ 32 → ArePieces table []
 no_pieces table short = record {

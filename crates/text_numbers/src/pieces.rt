@@ -1,8 +1,9 @@
 //! Texts as pieces before other texts.
 
-ghost use Rattle.std.specs.Prelude.{◌≡◌, ◌<◌, ◌≤◌, ◌+◌, ◌-◌, ◌%◌, ◌^◌, false, [], ◌∷◌, ◌++◌, Some, length, slice_get, slice_range, IfOk, IfSome, OnOk, OnErr, MatchOption};
-ghost use Rattle.std.specs.List.{list_any, position};
+ghost use Rattle.std.specs.Prelude.{◌≡◌, ◌<◌, ◌≤◌, ◌+◌, ◌-◌, ◌%◌, ◌^◌, [], ◌∷◌, Some, length, slice_get, slice_range, IfOk, OnOk, OnErr};
+ghost use Rattle.std.specs.List.{position_or_len};
 ghost use Rattle.std.specs.Map.{keys_of};
+ghost use Rattle.indexmap.specs.IndexMap.{insert_entry};
 ghost use Rattle.text_numbers.specs.Texts.{is_same, AreDifferent, AreKept};
 
 use crate::piece::{Piece, Span};
@@ -43,39 +44,32 @@ fn piece_of<'a>(table: &'a [u8], start: usize, end: usize, rest: u32) -> Piece<'
     }
 }
 
-/// The place of a piece, where it is there.
-fn find<'a>(places: &IndexMap<Piece<'a>, Span>, piece: &Piece<'a>) -> Option<usize>
-    ensures value { MatchOption result (list_any (is_same piece.now) (keys_of places.now.entries) ≡ false) (λ i. position (is_same piece.now) (keys_of places.now.entries) ≡ Some i) }
-    ensures within { IfSome result (λ i. i < length places.now.entries) }
-{
-    places.get_index_of(piece)
-}
-
-/// Puts a piece that isn't there behind the others.
-fn push<'a>(
+/// The place of a piece, which is put behind the others where it isn't there. The span is that of its text.
+fn place_of<'a>(
     places: &mut IndexMap<Piece<'a>, Span>,
     piece: Piece<'a>,
     span: Span,
-) -> Result<(), NoMemory>
-    requires { list_any (is_same piece) (keys_of places.old.entries) ≡ false }
-    ensures ok { OnOk result (places.new.entries ≡ places.old.entries ++ (piece.entry, span) ∷ []) }
+) -> Result<usize, NoMemory>
+    ensures at { IfOk result (λ i. i ≡ position_or_len (is_same piece.entry) (keys_of places.old.entries)) }
+    ensures within { IfOk result (λ i. i ≤ length places.old.entries) }
+    ensures ok { OnOk result (places.new.entries ≡ insert_entry is_same places.old.entries piece.entry span) }
     ensures err { OnErr result (places.new.entries ≡ places.old.entries) }
 {
-    places.insert(piece, span)?;
-    Ok(())
+    let (at, _) = places.insert_full(piece, span)?;
+    Ok(at)
 }
 
 impl<'a> Pieces<'a> {
-    /// The empty text of a table alone.
-    pub(crate) fn new(alloc: Global, table: &'a [u8]) -> Pieces<'a>
+    /// The empty text of a table alone, with room for one in each 64 bytes.
+    pub(crate) fn new(alloc: Global, table: &'a [u8]) -> Result<Pieces<'a>, NoMemory>
         requires { length table.now < 2 ^ 32 }
-        ensures table { result.table ≡ table.now }
-        ensures texts { result.texts ≡ [] ∷ [] }
+        ensures table { IfOk result (λ pieces. pieces.table ≡ table.now) }
+        ensures texts { IfOk result (λ pieces. pieces.texts ≡ [] ∷ []) }
     {
-        Pieces {
+        Ok(Pieces {
             table,
-            places: IndexMap::new(alloc),
-        }
+            places: IndexMap::with_capacity(alloc, table.len() / 64)?,
+        })
     }
 
     /// The table.
@@ -115,20 +109,14 @@ impl<'a> Pieces<'a> {
         ensures kept { AreKept self.old.texts self.new.texts }
     {
         let piece = piece_of(self.table, start, rest, number);
-        match find(&self.places, &piece) {
-            Some(at) => Ok(at as u32 + 1),
-            None => {
-                let number = self.len();
-                if number == u32::MAX {
-                    return Err(NoMemory);
-                }
-                let span = Span {
-                    start: start as u32,
-                    end: end as u32,
-                };
-                push(&mut self.places, piece, span)?;
-                Ok(number)
-            }
+        if self.len() == u32::MAX {
+            return Err(NoMemory);
         }
+        let span = Span {
+            start: start as u32,
+            end: end as u32,
+        };
+        let at = place_of(&mut self.places, piece, span)?;
+        Ok(at as u32 + 1)
     }
 }

@@ -33,7 +33,7 @@ impl<'a> Texts<'a> {
         requires { length table.now < 2 ^ 32 }
         ensures table { IfOk result (λ texts. texts.table ≡ table.now) }
     {
-        let pieces = Pieces::new(alloc, table);
+        let pieces = Pieces::new(alloc, table)?;
         let marks = unmarked_slots(alloc, &pieces)?;
         Ok(Texts { pieces, marks })
     }
