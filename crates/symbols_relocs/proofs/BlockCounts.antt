@@ -6,10 +6,6 @@ use Rattle.std.proofs.lemmas.Option.{get_or_from_slice_get, slice_get-get_or, sl
 use Rattle.elf_objects.specs.declared.symbol.Reloc.{Reloc}
 use Rattle.symbols_relocs.specs.RelocCounts.{AreBelow, CountBlocks}
 
--- while there are fewer than `blocks`, the first relocations are below the end of them
-abbrev pub ReachTo : List Reloc → ℕ → ℕ → ℕ → Type 0
-ReachTo relocs blocks index len = len < blocks → (k : ℕ) (d : Reloc) → k < index → (get_or relocs k d).offset < 32 * len
-
 -- with one block more, whose beginning so many are below
 pub one_more : (relocs : List Reloc) (near : List ℕ) (n : ℕ) → CountBlocks relocs near → AreBelow relocs n (32 * length near) → CountBlocks relocs (near ++ n ∷ [])
 one_more relocs near n counts new block count is =

@@ -52,15 +52,22 @@ first_here off (r ∷ relocs) (suc start) d inside below here =
     ap (λ rs. slice_get rs 0) (let first : r.offset < off = below 0 r (omega arith) in at_offset_other off r relocs (λ same. omega arith))
     ∙ first_here off relocs start d (omega arith) (λ k d h. below (suc k) d (omega arith)) here
 
--- where those behind are above it, there is none
+-- where those behind are above it, there are none
+pub none_at : (off : ℕ) (relocs : List Reloc) (start : ℕ)
+    → ((k : ℕ) (d : Reloc) → k < start → (get_or relocs k d).offset < off)
+    → ((k : ℕ) (d : Reloc) → start ≤ k → k < length relocs → off < (get_or relocs k d).offset)
+    → at_offset off relocs ≡ []
+none_at off [] start below above = refl
+none_at off (r ∷ relocs) zero below above =
+    (let first : off < r.offset = above 0 r (omega arith) (omega arith) in at_offset_other off r relocs (λ same. omega arith))
+    ∙ none_at off relocs zero (λ k d h. absurd (omega arith)) (λ k d l h. above (suc k) d (omega arith) (omega arith))
+none_at off (r ∷ relocs) (suc start) below above =
+    (let first : r.offset < off = below 0 r (omega arith) in at_offset_other off r relocs (λ same. omega arith))
+    ∙ none_at off relocs start (λ k d h. below (suc k) d (omega arith)) (λ k d l h. above (suc k) d (omega arith) (omega arith))
+
+-- so there is no first
 pub first_none : (off : ℕ) (relocs : List Reloc) (start : ℕ)
     → ((k : ℕ) (d : Reloc) → k < start → (get_or relocs k d).offset < off)
     → ((k : ℕ) (d : Reloc) → start ≤ k → k < length relocs → off < (get_or relocs k d).offset)
     → first_at_offset off relocs ≡ None
-first_none off [] start below above = refl
-first_none off (r ∷ relocs) zero below above =
-    ap (λ rs. slice_get rs 0) (let first : off < r.offset = above 0 r (omega arith) (omega arith) in at_offset_other off r relocs (λ same. omega arith))
-    ∙ first_none off relocs zero (λ k d h. absurd (omega arith)) (λ k d l h. above (suc k) d (omega arith) (omega arith))
-first_none off (r ∷ relocs) (suc start) below above =
-    ap (λ rs. slice_get rs 0) (let first : r.offset < off = below 0 r (omega arith) in at_offset_other off r relocs (λ same. omega arith))
-    ∙ first_none off relocs start (λ k d h. below (suc k) d (omega arith)) (λ k d l h. above (suc k) d (omega arith) (omega arith))
+first_none off relocs start below above = ap (λ rs. slice_get rs 0) (none_at off relocs start below above)

@@ -1,7 +1,8 @@
 -- How many relocations are below an offset.
-use Rattle.std.specs.Prelude.{◌≡◌, ◌<◌, ◌≤◌, ◌*◌, ℕ, List, Some, length, slice_get, slice_index_or}
+use Rattle.std.specs.Prelude.{◌≡◌, ◌<◌, ◌≤◌, ◌+◌, ◌*◌, ℕ, List, [], Some, length, slice_get, slice_index_or}
 use Rattle.std.specs.List.Sorted.{IsNonDecreasingBy}
 use Rattle.elf_objects.specs.declared.symbol.Reloc.{Reloc}
+use Rattle.symbols_relocs.specs.Relocs.{at_offset}
 
 -- the first so many are below an offset
 pub record AreBelow (relocs : List Reloc) (count off : ℕ) : Type 0 where
@@ -22,3 +23,7 @@ CountBlocks relocs near = (block count : ℕ) → slice_get near block ≡ Some 
 pub record AreCounted (relocs : List Reloc) (near : List ℕ) : Type 0 where
   pub sorted : IsNonDecreasingBy (λ r. r.offset) relocs
   pub blocks : CountBlocks relocs near
+
+-- none is at one of so many bytes from an offset on
+abbrev pub LackRelocs : List Reloc → ℕ → ℕ → Type 0
+LackRelocs relocs off len = (k : ℕ) → k < len → at_offset (off + k) relocs ≡ []

@@ -1,8 +1,9 @@
 //! What is known of an object's code before it is read.
 
-ghost use Rattle.std.specs.Prelude.{◌≡◌, ◌<◌, ◌≤◌, ◌+◌, ◌^◌, ℕ, None, [], length, slice_index_or, option_map, IfOk, IfErr, IfSome, OnOk};
+ghost use Rattle.std.specs.Prelude.{◌≡◌, ◌<◌, ◌≤◌, ◌+◌, ◌^◌, ℕ, None, [], length, slice_index_or, option_map, IfOk, IfErr, IfSome, IsTrue, OnOk};
 ghost use Rattle.elf_objects.specs.Contents.{relocs_at};
 ghost use Rattle.symbols_relocs.specs.NamedPlaces as places;
+ghost use Rattle.symbols_relocs.specs.RelocCounts.{LackRelocs};
 ghost use Rattle.symbols_relocs.specs.Relocs.{at_offset, IsIndexOf};
 ghost use Rattle.symbols_relocs.specs.Faults.{Tells};
 ghost use Rattle.symbols_relocs.specs.Functions.{first_bad, function_at as function_symbol_at, starts_at as starts_symbol_at};
@@ -164,6 +165,18 @@ impl<'o, 'a> Index<'o, 'a> {
         self.relocs.get(place.sec as usize)?.reloc_near(place.off)
     }
 
+    /// Whether few steps show that no relocation begins at one of so many bytes from a place on.
+    #[inline(always)]
+    pub(crate) fn lacks_relocs(&self, place: Place, len: u8) -> bool
+        requires { place.off + len < 2 ^ 64 }
+        ensures { IsTrue result → LackRelocs (relocs_at self.now.elf place.sec) place.off len }
+    {
+        match self.relocs.get(place.sec as usize) {
+            Some(relocs) => relocs.lacks_from(place.off, len),
+            None => false,
+        }
+    }
+
     /// The place that the field at a place holds by a relocation: the symbol's value plus the addend, in
     /// the symbol's section.
     ///
@@ -195,14 +208,17 @@ impl<'o, 'a> Index<'o, 'a> {
     }
 
     /// The target of a call or branch with a displacement.
-    #[inline(never)]
+    #[inline(always)]
     fn jump_target(&self, place: Place, len: u8, displacement: Displacement) -> Target
         requires { place.off + len < 2 ^ 64 }
         ensures { result ≡ jump_target_of self.now.elf place len displacement.rel displacement.wide }
     {
         match self.reloc_near(field_of(place, len, displacement.wide)) {
             Some(reloc) => field_target(self.object, place, len, displacement, reloc),
-            None => self.far_target(place, len, displacement),
+            None => {
+                let target = self.far_target(place, len, displacement);
+                target
+            }
         }
     }
 

@@ -1,6 +1,6 @@
 //! How many relocations are below an offset, told without a search.
 
-ghost use Rattle.std.specs.Prelude.{◌≡◌, ◌<◌, ◌≤◌, ◌*◌, ◌+◌, ◌/◌, Some, length, slice_get, IfOk, IfSome};
+ghost use Rattle.std.specs.Prelude.{◌≡◌, ◌<◌, ◌≤◌, ◌*◌, ◌+◌, ◌/◌, ◌^◌, Some, length, slice_get, IfOk, IfSome};
 ghost use Rattle.symbols_relocs.specs.RelocCounts.{CountBlocks};
 
 use elf_objects::Reloc;
@@ -33,15 +33,17 @@ fn block_count(relocs: &[Reloc]) -> usize {
 
 /// How many relocations are below the beginning of each block, where they are in the order of their offsets.
 pub(crate) fn list_counts(alloc: Global, relocs: &[Reloc]) -> Result<Vec<u32>, NoMemory>
+    requires { length relocs.now < 2 ^ 32 }
     ensures { IfOk result (λ near. CountBlocks relocs.now near.items) }
 {
     let count = block_count(relocs);
     let mut near = Vec::with_capacity(alloc, count)?;
-    for (index, reloc) in relocs.iter().enumerate() {
-        let below = index.min(u32::MAX as usize) as u32;
-        for _ in near.len()..count.min(block_of(reloc.offset) + 1) {
-            near.push(below)?;
+    let mut below = 0;
+    for block in 0..count {
+        while below < relocs.len() && block_of(relocs[below].offset) < block {
+            below += 1;
         }
+        near.push(below as u32)?;
     }
     Ok(near)
 }

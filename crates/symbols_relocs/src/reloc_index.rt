@@ -1,11 +1,11 @@
 //! The relocations of a section, found by the offset of their field.
 
-ghost use Rattle.std.specs.Prelude.{◌≡◌, ◌<◌, ◌≤◌, ℕ, List, IsFalse, IsTrue, length, find, slice_index_or, option_and_then, option_map, IfOk, IfSome, OnOk};
+ghost use Rattle.std.specs.Prelude.{◌≡◌, ◌<◌, ◌≤◌, ◌+◌, ◌^◌, ℕ, List, IsFalse, IsTrue, length, find, slice_index_or, option_and_then, option_map, IfOk, IfSome, OnOk};
 ghost use Rattle.std.specs.List.Sorted.{IsNonDecreasingBy};
 ghost use Rattle.elf_objects.specs.Contents.{relocs_at};
 ghost use Rattle.elf_objects.specs.declared.symbol.Reloc.{Reloc};
 ghost use Rattle.symbols_relocs.specs.NamedPlaces.{place_named};
-ghost use Rattle.symbols_relocs.specs.RelocCounts.{AreBelow, IsCount};
+ghost use Rattle.symbols_relocs.specs.RelocCounts.{AreBelow, IsCount, LackRelocs};
 ghost use Rattle.symbols_relocs.specs.Relocs.{at_offset, first_at_offset, first_pointer, is_pointer_kind, IsIndexOf};
 
 use crate::near_relocs::{list_counts, near_count};
@@ -51,10 +51,11 @@ impl RelocIndex {
         Ok(RelocIndex { relocs, near })
     }
 
-    /// How many are below an offset, where few steps tell it.
+    /// How many are below an offset, where few steps lead to one that isn't.
     #[inline(always)]
     fn count_near(&self, off: u64) -> Option<usize>
-        ensures { IfSome result (IsCount self.now off) }
+        ensures count { IfSome result (IsCount self.now off) }
+        ensures inside { IfSome result (λ n. n < length self.now) }
     {
         count_from(&self.relocs, near_count(&self.near, off)?, off)
     }
@@ -81,7 +82,7 @@ impl RelocIndex {
     pub fn reloc_at(&self, off: u64) -> Option<Reloc>
         ensures { result ≡ first_at_offset off self.now }
     {
-        first_from(&self.relocs, self.count(off), off).copied()
+        first_from(&self.relocs, self.count(off), off)
     }
 
     /// The same, where few steps tell it.
@@ -89,7 +90,20 @@ impl RelocIndex {
     pub(crate) fn reloc_near(&self, off: u64) -> Option<Option<&Reloc>>
         ensures { IfSome result (λ r. option_map (λ p. p.now) r ≡ first_at_offset off self.now) }
     {
-        Some(first_from(&self.relocs, self.count_near(off)?, off))
+        let start = self.count_near(off)?;
+        Some(first_at(&self.relocs, start, off))
+    }
+
+    /// Whether few steps show that none begins at one of so many bytes from an offset on.
+    #[inline(always)]
+    pub(crate) fn lacks_from(&self, off: u64, len: u8) -> bool
+        requires { off + len < 2 ^ 64 }
+        ensures { IsTrue result → LackRelocs self.now off len }
+    {
+        match self.count_near(off) {
+            Some(start) => is_beyond(&self.relocs, start, off, len),
+            None => false,
+        }
     }
 
     /// The first of them whose type stands for a place: `R_X86_64_64`, `R_X86_64_PC32`, `R_X86_64_32` or
@@ -111,7 +125,8 @@ impl RelocIndex {
 /// The relocations of a section, in the order of the file.
 fn list_relocs(alloc: Global, object: &Object<'_>, sec: u32) -> Result<Vec<Reloc>, NoMemory>
     requires { sec < length object.now.sections }
-    ensures { IfOk result (λ relocs. relocs.items ≡ relocs_at object.now sec) }
+    ensures items { IfOk result (λ relocs. relocs.items ≡ relocs_at object.now sec) }
+    ensures few { IfOk result (λ relocs. length relocs.items < 2 ^ 32) }
 {
     let count = object.relocs(sec);
     let mut relocs = Vec::with_capacity(alloc, count as usize)?;
@@ -125,6 +140,7 @@ fn list_relocs(alloc: Global, object: &Object<'_>, sec: u32) -> Result<Vec<Reloc
 fn sort_by_offset(relocs: &mut Vec<Reloc>) -> Result<(), NoMemory>
     ensures sorted { OnOk result (IsNonDecreasingBy (λ r. r.offset) relocs.new.items) }
     ensures same { OnOk result (IsIndexOf relocs.old.items relocs.new.items) }
+    ensures len { OnOk result (length relocs.new.items ≡ length relocs.old.items) }
 {
     relocs.sort_by_key(|reloc| reloc.offset)?;
     Ok(())
@@ -142,15 +158,41 @@ fn run_from(relocs: &[Reloc], start: usize, off: u64) -> &[Reloc]
     run
 }
 
-/// The first of them.
+/// The first of them, where not all are below it.
 #[inline(always)]
-fn first_from(relocs: &[Reloc], start: usize, off: u64) -> Option<&Reloc>
+fn first_at(relocs: &[Reloc], start: usize, off: u64) -> Option<&Reloc>
     requires sorted { IsNonDecreasingBy (λ r. r.offset) relocs.now }
     requires start { IsCount relocs.now off start }
+    requires inside { start < length relocs.now }
     ensures { option_map (λ r. r.now) result ≡ first_at_offset off relocs.now }
 {
-    if start < relocs.len() && relocs[start].offset == off {
+    if relocs[start].offset == off {
         Some(&relocs[start])
+    } else {
+        None
+    }
+}
+
+/// Whether the first that isn't below an offset is behind so many bytes from it on.
+#[inline(always)]
+fn is_beyond(relocs: &[Reloc], start: usize, off: u64, len: u8) -> bool
+    requires sorted { IsNonDecreasingBy (λ r. r.offset) relocs.now }
+    requires start { IsCount relocs.now off start }
+    requires inside { start < length relocs.now }
+    requires fits { off + len < 2 ^ 64 }
+    ensures { IsTrue result → LackRelocs relocs.now off len }
+{
+    relocs[start].offset >= off + u64::from(len)
+}
+
+/// The first of them.
+fn first_from(relocs: &[Reloc], start: usize, off: u64) -> Option<Reloc>
+    requires sorted { IsNonDecreasingBy (λ r. r.offset) relocs.now }
+    requires start { IsCount relocs.now off start }
+    ensures { result ≡ first_at_offset off relocs.now }
+{
+    if start < relocs.len() {
+        first_at(relocs, start, off).copied()
     } else {
         None
     }
@@ -177,15 +219,29 @@ fn are_above(relocs: &[Reloc], from: usize, off: u64) -> bool
     from >= relocs.len() || relocs[from].offset > off
 }
 
-/// How many of these are below an offset, where at least the first `start` are, and few steps tell it.
+/// Whether there is a relocation with an index, and it isn't below an offset.
+#[inline(always)]
+fn is_from(relocs: &[Reloc], index: usize, off: u64) -> bool
+    requires { IsNonDecreasingBy (λ r. r.offset) relocs.now }
+    ensures inside { IsTrue result → index < length relocs.now }
+    ensures above { IsTrue result → (k : ℕ) (d : Reloc) → index ≤ k → k < length relocs.now → off ≤ (slice_index_or relocs.now k d).offset }
+    ensures below { IsFalse result → index < length relocs.now → (d : Reloc) → (slice_index_or relocs.now index d).offset < off }
+{
+    index < relocs.len() && relocs[index].offset >= off
+}
+
+/// How many of these are below an offset, where at least the first `start` are, and few steps lead to one that isn't.
 #[inline(always)]
 fn count_from(relocs: &[Reloc], start: usize, off: u64) -> Option<usize>
     requires sorted { IsNonDecreasingBy (λ r. r.offset) relocs.now }
     requires below { AreBelow relocs.now start off }
-    ensures { IfSome result (IsCount relocs.now off) }
+    ensures count { IfSome result (IsCount relocs.now off) }
+    ensures inside { IfSome result (λ n. n < length relocs.now) }
 {
-    let last = relocs.len().min(start + STEPS);
-    for index in start..last {
+    if is_from(relocs, start, off) {
+        return Some(start);
+    }
+    for index in start + 1..relocs.len().min(start + STEPS) {
         if relocs[index].offset >= off {
             return Some(index);
         }

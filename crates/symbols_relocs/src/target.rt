@@ -1,8 +1,9 @@
 //! The targets of direct calls and branches.
 
-ghost use Rattle.std.specs.Prelude.{◌≡◌, ◌<◌, ◌+ℤ◌, pos, true, false, length, bytes_eq, option_map};
+ghost use Rattle.std.specs.Prelude.{◌≡◌, ◌<◌, ◌+◌, ◌^◌, ◌+ℤ◌, pos, if◌then◌else◌, true, false, length, bytes_eq, option_map};
 ghost use Rattle.elf_objects.specs.Contents.{symbol_at};
 ghost use Rattle.elf_objects.specs.Lent.{lent_symbol};
+ghost use Rattle.symbols_relocs.specs.declared.target.Target.TheVariants as targets;
 ghost use Rattle.symbols_relocs.specs.Displacements.{field_target as field_target_of};
 ghost use Rattle.symbols_relocs.specs.NamedPlaces.{offset_of};
 ghost use Rattle.symbols_relocs.specs.Places.{is_in_text as is_in_text_of};
@@ -58,6 +59,7 @@ fn offset(sum: i128) -> Option<u64>
 }
 
 /// Whether a place is in a text section, below its size.
+#[inline(always)]
 fn is_in_text(object: &Object<'_>, place: Place) -> bool
     ensures { result ≡ is_in_text_of object.now place }
 {
@@ -67,6 +69,7 @@ fn is_in_text(object: &Object<'_>, place: Place) -> bool
 }
 
 /// The target at an offset of a section.
+#[inline(always)]
 fn inside(object: &Object<'_>, sec: u32, off: Option<u64>) -> Target
     ensures { result ≡ inside_at object.now sec off }
 {
@@ -84,6 +87,7 @@ fn inside(object: &Object<'_>, sec: u32, off: Option<u64>) -> Target
 }
 
 /// The same of a WEAK symbol.
+#[inline(never)]
 fn either(object: &Object<'_>, sym: u32, sec: u32, off: Option<u64>) -> Target
     ensures { result ≡ either_at object.now sym sec off }
 {
@@ -108,7 +112,9 @@ fn section_target(object: &Object<'_>, reloc: &Reloc, symbol: &Symbol, sec: u32)
 {
     let off = symbol_offset(symbol.value, reloc.addend);
     if symbol.bind == STB_WEAK {
-        either(object, reloc.sym, sec, off)
+        // What a call gives is bound to a name, here and below: so the other results are built in registers.
+        let target = either(object, reloc.sym, sec, off);
+        target
     } else {
         inside(object, sec, off)
     }
@@ -171,7 +177,7 @@ fn thunk_target(object: &Object<'_>, reloc: &Reloc) -> Target
 
 /// The target that a relocation on a displacement of 32 bits names.
 #[inline(always)]
-fn reloc_target(object: &Object<'_>, reloc: &Reloc) -> Target
+fn wide_target(object: &Object<'_>, reloc: &Reloc) -> Target
     ensures { result ≡ reloc_target_of object.now reloc.now }
 {
     if !is_branch_kind(reloc.kind) {
@@ -180,18 +186,40 @@ fn reloc_target(object: &Object<'_>, reloc: &Reloc) -> Target
         // A symbol that isn't there is undefined.
         Target::Outside(reloc.sym)
     } else if may_be_thunk(object, reloc.sym) {
-        thunk_target(object, reloc)
+        let target = thunk_target(object, reloc);
+        target
     } else {
         symbol_target(object, reloc)
     }
 }
 
+/// The target that a relocation on a displacement names, which has 32 bits where it is wide.
+#[inline(never)]
+fn reloc_target(object: &Object<'_>, reloc: &Reloc, wide: bool) -> Target
+    ensures { result ≡ if wide then reloc_target_of object.now reloc.now else targets.Bad }
+{
+    if wide {
+        wide_target(object, reloc)
+    } else {
+        Target::Bad
+    }
+}
+
+/// The offset so far from another, where 64 bits hold it.
+#[inline(always)]
+fn offset_from(end: u64, rel: i32) -> Option<u64>
+    ensures { result ≡ offset_of (pos end +ℤ rel) }
+{
+    end.checked_add_signed(i64::from(rel))
+}
+
 /// The target of a displacement without a relocation.
 #[inline(always)]
 fn relative_target(object: &Object<'_>, place: Place, len: u8, rel: i32) -> Target
+    requires { place.off + len < 2 ^ 64 }
     ensures { result ≡ relative_target_of object.now place len rel }
 {
-    let off = offset(i128::from(place.off) + i128::from(len) + i128::from(rel));
+    let off = offset_from(place.off + u64::from(len), rel);
     inside(object, place.sec, off)
 }
 
@@ -204,11 +232,14 @@ pub(crate) fn field_target(
     displacement: Displacement,
     reloc: Option<&Reloc>,
 ) -> Target
+    requires { place.off + len < 2 ^ 64 }
     ensures { result ≡ field_target_of object.now place len displacement (option_map (λ r. r.now) reloc.entry) }
 {
     match reloc {
         None => relative_target(object, place, len, displacement.rel),
-        Some(reloc) if displacement.wide => reloc_target(object, reloc),
-        Some(_) => Target::Bad,
+        Some(reloc) => {
+            let target = reloc_target(object, reloc, displacement.wide);
+            target
+        }
     }
 }
