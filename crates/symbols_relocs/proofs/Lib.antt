@@ -12,4 +12,5 @@ mod Stems
 mod Numbers
 mod Counted
 mod Spans
+mod BlockCounts
 mod Ranges

@@ -1,8 +1,8 @@
 -- The relocations at an offset, among those in the order of their offsets.
-use Rattle.std.proofs.Common.{◌≡◌, ℕ, zero, suc, ◌<◌, ◌≤◌, cond, List, [], ◌∷◌, length, take, drop, get_or, arith, refl, ap, ◌∙◌}
+use Rattle.std.proofs.Common.{◌≡◌, ℕ, zero, suc, ◌<◌, ◌≤◌, cond, List, [], ◌∷◌, Some, None, length, take, drop, get_or, slice_get, arith, refl, ap, ◌∙◌}
 use Rattle.std.proofs.lemmas.Bool.{eq-eqb, ne_eqb}
 use Rattle.elf_objects.specs.declared.symbol.Reloc.{Reloc}
-use Rattle.symbols_relocs.specs.Relocs.{at_offset}
+use Rattle.symbols_relocs.specs.Relocs.{at_offset, first_at_offset}
 
 -- the relocations below an offset are passed by
 at_offset_other : (off : ℕ) (r : Reloc) (relocs : List Reloc) → (r.offset ≡ off → ⊥) → at_offset off (r ∷ relocs) ≡ at_offset off relocs
@@ -40,3 +40,34 @@ below_first off relocs d start end inside below above = at_most start end (λ la
   where
     at_most : (m n : ℕ) → (n < m → ⊥) → m ≤ n
     at_most m n not = omega arith
+
+-- where one behind those below an offset is at it, it is the first
+pub first_here : (off : ℕ) (relocs : List Reloc) (start : ℕ) (d : Reloc) → start < length relocs
+    → ((k : ℕ) (d : Reloc) → k < start → (get_or relocs k d).offset < off)
+    → (get_or relocs start d).offset ≡ off
+    → first_at_offset off relocs ≡ Some (get_or relocs start d)
+first_here off [] start d inside below here = absurd (omega arith)
+first_here off (r ∷ relocs) zero d inside below here = ap (λ rs. slice_get rs 0) (at_offset_here off r relocs here)
+first_here off (r ∷ relocs) (suc start) d inside below here =
+    ap (λ rs. slice_get rs 0) (let first : r.offset < off = below 0 r (omega arith) in at_offset_other off r relocs (λ same. omega arith))
+    ∙ first_here off relocs start d (omega arith) (λ k d h. below (suc k) d (omega arith)) here
+
+-- where those behind are above it, there are none
+pub none_at : (off : ℕ) (relocs : List Reloc) (start : ℕ)
+    → ((k : ℕ) (d : Reloc) → k < start → (get_or relocs k d).offset < off)
+    → ((k : ℕ) (d : Reloc) → start ≤ k → k < length relocs → off < (get_or relocs k d).offset)
+    → at_offset off relocs ≡ []
+none_at off [] start below above = refl
+none_at off (r ∷ relocs) zero below above =
+    (let first : off < r.offset = above 0 r (omega arith) (omega arith) in at_offset_other off r relocs (λ same. omega arith))
+    ∙ none_at off relocs zero (λ k d h. absurd (omega arith)) (λ k d l h. above (suc k) d (omega arith) (omega arith))
+none_at off (r ∷ relocs) (suc start) below above =
+    (let first : r.offset < off = below 0 r (omega arith) in at_offset_other off r relocs (λ same. omega arith))
+    ∙ none_at off relocs start (λ k d h. below (suc k) d (omega arith)) (λ k d l h. above (suc k) d (omega arith) (omega arith))
+
+-- so there is no first
+pub first_none : (off : ℕ) (relocs : List Reloc) (start : ℕ)
+    → ((k : ℕ) (d : Reloc) → k < start → (get_or relocs k d).offset < off)
+    → ((k : ℕ) (d : Reloc) → start ≤ k → k < length relocs → off < (get_or relocs k d).offset)
+    → first_at_offset off relocs ≡ None
+first_none off relocs start below above = ap (λ rs. slice_get rs 0) (none_at off relocs start below above)

@@ -1,9 +1,11 @@
 pub mod NamedPlaces
 pub mod Relocs
+pub mod RelocCounts
 pub mod Places
 pub mod Functions
 pub mod Parts
 pub mod Targets
+pub mod Displacements
 pub mod Lists
 pub mod Names
 pub mod Faults

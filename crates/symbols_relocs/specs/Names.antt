@@ -1,11 +1,10 @@
 -- The names of symbols, and the numbers that they are told by while parents are looked up.
-use Rattle.std.specs.Prelude.{◌≡◌, ◌<◌, ℕ, List, [], Option, Some, None, MatchOption, length, slice_get, slice_index, slice_index_or, slice_set, take, true}
+use Rattle.std.specs.Prelude.{◌≡◌, ◌<◌, ◌+◌, ◌-◌, ◌*◌, ◌%◌, ℕ, Bool, List, [], Option, Some, None, IfSome, MatchOption, length, slice_get, slice_index, slice_index_or, slice_set, take, true, false}
 use Rattle.std.specs.Option.{option_or}
 use Rattle.elf_objects.specs.Elf.{Elf}
 use Rattle.elf_objects.specs.Contents.{section_at, symbol_at}
 use Rattle.symbols_relocs.specs.declared.function.Function.{Function}
 use Rattle.symbols_relocs.specs.declared.part.Run.{Run}
-use Rattle.symbols_relocs.specs.Functions.{is_function}
 use Rattle.symbols_relocs.specs.Lists.{function}
 use Rattle.symbols_relocs.specs.Parts.{digits_at_end, first_named, part_name}
 
@@ -38,18 +37,29 @@ pub record AreStems (o : Elf) (fs : List Function) (texts : List (List ℕ)) (co
   pub len : length stems ≡ count
   pub each : (i : ℕ) → i < count → IsNumber texts (slice_index_or stems i None) (part_name (symbol_at o (function fs i).sym).name)
 
--- for each of the first symbols the number of its name, where it is one of a function
-pub record AreNumbers (o : Elf) (texts : List (List ℕ)) (count : ℕ) (numbers : List ℕ) : Type 0 where
-  pub len : length numbers ≡ count
-  pub each : (k : ℕ) → k < count → is_function o k ≡ true → slice_get texts (slice_index numbers k) ≡ Some (symbol_at o k).name
+-- the slot of a name
+abbrev pub name_slot : List ℕ → ℕ
+name_slot name = (length name + 64 * slice_index name (length name - 1)) % 1024
+
+-- it is marked
+abbrev pub IsMarked : List Bool → List ℕ → Type 0
+IsMarked marks name = slice_index_or marks (name_slot name) false ≡ true
+
+-- what is marked is so from then on
+abbrev pub KeepsMarks : List Bool → List Bool → Type 0
+KeepsMarks old new = (i : ℕ) → slice_index_or old i false ≡ true → slice_index_or new i false ≡ true
+
+-- a number is that of a text whose slot is marked
+abbrev pub HasMark : List (List ℕ) → List Bool → Option ℕ → Type 0
+HasMark texts marks number = IfSome number (λ n. (t : List ℕ) × (slice_get texts n ≡ Some t) × IsMarked marks t)
 
 -- a number that has no symbol has this one
 abbrev pub with_first : List (Option ℕ) → ℕ → ℕ → List (Option ℕ)
 with_first first number symbol = slice_set first number (option_or (slice_index_or first number None) (Some symbol))
 
--- for each text with a number the first symbol of a function that has this name
-abbrev pub AreFirst : Elf → List (List ℕ) → List (Option ℕ) → Type 0
-AreFirst o texts first = (n : ℕ) (text : List ℕ) → slice_get texts n ≡ Some text → slice_index_or first n None ≡ first_named o text
+-- for each text with a number and a marked slot the first symbol of a function that has this name
+abbrev pub AreFirst : Elf → List (List ℕ) → List Bool → List (Option ℕ) → Type 0
+AreFirst o texts marks first = (n : ℕ) (text : List ℕ) → slice_get texts n ≡ Some text → IsMarked marks text → slice_index_or first n None ≡ first_named o text
 
 -- so it is of the numbers that are there
 abbrev pub KnowsParents : Elf → List (List ℕ) → List (Option ℕ) → List (Option ℕ) → Type 0

@@ -1,17 +1,19 @@
 //! What is known of an object's code before it is read.
 
-ghost use Rattle.std.specs.Prelude.{◌≡◌, ◌<◌, ◌≤◌, ◌+◌, ◌^◌, ℕ, None, [], length, slice_index_or, IfOk, IfErr, OnOk};
+ghost use Rattle.std.specs.Prelude.{◌≡◌, ◌<◌, ◌≤◌, ◌+◌, ◌^◌, ℕ, None, [], length, slice_index_or, option_map, IfOk, IfErr, IfSome, IsTrue, OnOk};
 ghost use Rattle.elf_objects.specs.Contents.{relocs_at};
 ghost use Rattle.symbols_relocs.specs.NamedPlaces as places;
+ghost use Rattle.symbols_relocs.specs.RelocCounts.{LackRelocs};
 ghost use Rattle.symbols_relocs.specs.Relocs.{at_offset, IsIndexOf};
 ghost use Rattle.symbols_relocs.specs.Faults.{Tells};
 ghost use Rattle.symbols_relocs.specs.Functions.{first_bad, function_at as function_symbol_at, starts_at as starts_symbol_at};
 ghost use Rattle.symbols_relocs.specs.Lists.{AreFunctions, HaveParents, IsIndexOfSymbol};
 ghost use Rattle.symbols_relocs.specs.Parts.{owner_at as owner_symbol_at};
 ghost use Rattle.symbols_relocs.specs.Spans.{place_at};
-ghost use Rattle.symbols_relocs.specs.Targets.{branch_target as branch_target_of, jump_target as jump_target_of, last_bytes as last_bytes_of, short_target as short_target_of, wide_target as wide_target_of};
+ghost use Rattle.symbols_relocs.specs.Targets.{branch_target as branch_target_of, jump_target as jump_target_of};
 
 use crate::RelocIndex;
+use crate::displacement::{Displacement, displacement_of, field_of};
 use crate::fault::IndexFault;
 use crate::function::Function;
 use crate::merge::merge_symbols;
@@ -21,9 +23,9 @@ use crate::outer::{find_holder, link_outer};
 use crate::parents::with_parents;
 use crate::span::{Span, find_span};
 use crate::symbols::list_symbols;
-use crate::target::{Target, relative_target, reloc_target};
+use crate::target::{Target, field_target};
 use elf_objects::{Object, Reloc};
-use operation_defs::{Insn, Op};
+use operation_defs::Insn;
 use ot_base::{NoMemory, Place};
 use std::alloc::Global;
 use std::marker::Model;
@@ -155,6 +157,26 @@ impl<'o, 'a> Index<'o, 'a> {
         self.relocs[place.sec as usize].reloc_at(place.off)
     }
 
+    /// The same relocation, where it is found near or known to be missing.
+    #[inline(always)]
+    fn reloc_near(&self, place: Place) -> Option<Option<&Reloc>>
+        ensures { IfSome result (λ r. option_map (λ p. p.now) r ≡ places.reloc_at self.now.elf place) }
+    {
+        self.relocs.get(place.sec as usize)?.reloc_near(place.off)
+    }
+
+    /// Whether few steps show that no relocation begins at one of so many bytes from a place on.
+    #[inline(always)]
+    pub(crate) fn lacks_relocs(&self, place: Place, len: u8) -> bool
+        requires { place.off + len < 2 ^ 64 }
+        ensures { IsTrue result → LackRelocs (relocs_at self.now.elf place.sec) place.off len }
+    {
+        match self.relocs.get(place.sec as usize) {
+            Some(relocs) => relocs.lacks_from(place.off, len),
+            None => false,
+        }
+    }
+
     /// The place that the field at a place holds by a relocation: the symbol's value plus the addend, in
     /// the symbol's section.
     ///
@@ -174,62 +196,40 @@ impl<'o, 'a> Index<'o, 'a> {
     ///
     /// It is [`Target::Bad`] for any other instruction. It judges by the instruction, the relocation and
     /// the symbol alone: whether an instruction starts at the target is not asked.
+    #[inline(always)]
     pub fn branch_target(&self, place: Place, insn: Insn) -> Target
         requires { place.off + insn.len < 2 ^ 64 }
         ensures { result ≡ branch_target_of self.now.elf place insn }
     {
-        match insn.op {
-            Op::Call { rel } => self.wide_target(place, insn.len, rel),
-            Op::Jmp { rel, wide } => self.jump_target(place, insn.len, rel, wide),
-            Op::Jcc { rel, wide } => self.jump_target(place, insn.len, rel, wide),
-            _ => Target::Bad,
+        match displacement_of(insn.op) {
+            Some(displacement) => self.jump_target(place, insn.len, displacement),
+            None => Target::Bad,
         }
     }
 
-    /// The target of a jump, `wide` where its displacement has 32 bits.
-    fn jump_target(&self, place: Place, len: u8, rel: i32, wide: bool) -> Target
+    /// The target of a call or branch with a displacement.
+    #[inline(always)]
+    fn jump_target(&self, place: Place, len: u8, displacement: Displacement) -> Target
         requires { place.off + len < 2 ^ 64 }
-        ensures { result ≡ jump_target_of self.now.elf place len rel wide }
+        ensures { result ≡ jump_target_of self.now.elf place len displacement.rel displacement.wide }
     {
-        if wide {
-            self.wide_target(place, len, rel)
-        } else {
-            self.short_target(place, len, rel)
+        match self.reloc_near(field_of(place, len, displacement.wide)) {
+            Some(reloc) => field_target(self.object, place, len, displacement, reloc),
+            None => {
+                let target = self.far_target(place, len, displacement);
+                target
+            }
         }
     }
 
-    /// The target of a call or branch whose displacement has 32 bits.
-    fn wide_target(&self, place: Place, len: u8, rel: i32) -> Target
+    /// The same, where the relocation of its field isn't found near.
+    #[inline(never)]
+    fn far_target(&self, place: Place, len: u8, displacement: Displacement) -> Target
         requires { place.off + len < 2 ^ 64 }
-        ensures { result ≡ wide_target_of self.now.elf place len rel }
+        ensures { result ≡ jump_target_of self.now.elf place len displacement.rel displacement.wide }
     {
-        match self.reloc_at(last_bytes(place, len, 4)) {
-            Some(reloc) => reloc_target(self.object, reloc),
-            None => relative_target(self.object, place, len, rel),
-        }
-    }
-
-    /// The target of a branch whose displacement has 8 bits.
-    fn short_target(&self, place: Place, len: u8, rel: i32) -> Target
-        requires { place.off + len < 2 ^ 64 }
-        ensures { result ≡ short_target_of self.now.elf place len rel }
-    {
-        if self.reloc_at(last_bytes(place, len, 1)).is_some() {
-            Target::Bad
-        } else {
-            relative_target(self.object, place, len, rel)
-        }
-    }
-}
-
-/// Where the last bytes of the instruction at a place begin.
-fn last_bytes(place: Place, len: u8, bytes: u64) -> Place
-    requires { place.off + len < 2 ^ 64 }
-    ensures { result ≡ last_bytes_of place len bytes }
-{
-    Place {
-        sec: place.sec,
-        off: (place.off + u64::from(len)).saturating_sub(bytes),
+        let reloc = self.reloc_at(field_of(place, len, displacement.wide));
+        field_target(self.object, place, len, displacement, reloc.as_ref())
     }
 }
 

@@ -8,6 +8,7 @@
 //! of the relocation on its displacement, where one stands there.
 #![tactic(auto)]
 
+mod displacement;
 mod fault;
 mod function;
 mod index;

@@ -1,6 +1,6 @@
 //! Functions in the order of their starts.
 
-ghost use Rattle.std.specs.Prelude.{◌≡◌, ◌<◌, ◌≤◌, ℕ, true, false, length, IfSome, MatchOption};
+ghost use Rattle.std.specs.Prelude.{◌≡◌, ◌<◌, ◌≤◌, ◌-◌, ℕ, true, false, length, IfSome, IsTrue, MatchOption};
 ghost use Rattle.ot_base.specs.Places.{is_before as is_lower, same_place};
 ghost use Rattle.symbols_relocs.specs.Lists.{function, AreRising};
 ghost use Rattle.symbols_relocs.specs.Counts.{is_behind as is_one_behind, is_upto as is_one_upto};
@@ -49,6 +49,59 @@ fn without_behind(functions: &[Function], count: usize, place: Place) -> Option<
     None
 }
 
+/// Whether the last of so many starts in the section of a place, there or before it.
+#[inline(always)]
+fn is_last_upto(functions: &[Function], count: usize, place: Place) -> bool
+    requires { count ≤ length functions.now }
+    ensures upto { IsTrue result → is_one_upto functions.now count place ≡ true }
+    ensures some { IsTrue result → 0 < count }
+    ensures same { IsTrue result → (function functions.now (count - 1)).start.sec ≡ place.sec }
+{
+    count > 0
+        && functions[count - 1].start.sec == place.sec
+        && functions[count - 1].start.off <= place.off
+}
+
+/// Whether the one with an index starts behind a place, in whose section the one before it starts, or there is none.
+#[inline(always)]
+fn is_next_behind(functions: &[Function], index: usize, place: Place) -> bool
+    requires rising { AreRising functions.now }
+    requires some { 0 < index }
+    requires same { (function functions.now (index - 1)).start.sec ≡ place.sec }
+    ensures { IsTrue result → is_one_behind functions.now index place ≡ true }
+{
+    index >= functions.len()
+        || functions[index].start.sec != place.sec
+        || place.off < functions[index].start.off
+}
+
+/// Whether so many start at a place or before it, where the last of them starts in its section.
+#[inline(always)]
+fn are_counted(functions: &[Function], count: usize, place: Place) -> bool
+    requires { AreRising functions.now }
+    ensures within { IsTrue result → count ≤ length functions.now }
+    ensures upto { IsTrue result → is_one_upto functions.now count place ≡ true }
+    ensures behind { IsTrue result → is_one_behind functions.now count place ≡ true }
+{
+    count <= functions.len()
+        && is_last_upto(functions, count, place)
+        && is_next_behind(functions, count, place)
+}
+
+/// How many of these start at a place or before it, where so many may.
+#[inline(never)]
+fn count_from(functions: &[Function], near: usize, place: Place) -> usize
+    requires { AreRising functions.now }
+    ensures within { result ≤ length functions.now }
+    ensures to { (k : ℕ) → k < result → is_lower place (function functions.now k).start ≡ false }
+    ensures behind { (k : ℕ) → result ≤ k → k < length functions.now → is_lower place (function functions.now k).start ≡ true }
+{
+    match without_behind(functions, near, place) {
+        Some(count) if is_behind(functions, count, place) => count,
+        _ => count_to(functions, place),
+    }
+}
+
 /// How many of these start at a place or before it, where `near` has what to try first.
 pub(crate) fn count_near(functions: &[Function], near: &[u32], place: Place) -> usize
     requires { AreRising functions.now }
@@ -56,9 +109,11 @@ pub(crate) fn count_near(functions: &[Function], near: &[u32], place: Place) -> 
     ensures to { (k : ℕ) → k < result → is_lower place (function functions.now k).start ≡ false }
     ensures behind { (k : ℕ) → result ≤ k → k < length functions.now → is_lower place (function functions.now k).start ≡ true }
 {
-    match without_behind(functions, near_count(near, place), place) {
-        Some(count) if is_behind(functions, count, place) => count,
-        _ => count_to(functions, place),
+    let count = near_count(near, place);
+    if are_counted(functions, count, place) {
+        count
+    } else {
+        count_from(functions, count, place)
     }
 }
 

@@ -8,7 +8,7 @@ ghost use Rattle.symbols_relocs.specs.Names.{strings as strings_of, AreFound, Is
 ghost use Rattle.symbols_relocs.specs.Parts.{first_named, function_named as function_named_by, other_than as other_than_symbol};
 
 use crate::function::Function;
-use crate::names::{first_symbols, list_stems};
+use crate::names::{first_symbols, list_stems, no_marks};
 use crate::order::find_start;
 use crate::strings::strings;
 use crate::symbols::start_of;
@@ -108,8 +108,9 @@ fn find_parents(
     ensures same { IfOk result (λ list. AreSame functions.now list.items) }
     ensures parents { IfOk result (λ list. HaveParents object.now list.items) }
 {
-    let stems = list_stems(alloc, object, functions, ends, texts)?;
-    let first = first_symbols(alloc, object, ends, texts, stems.as_slice())?;
+    let mut marks = no_marks(alloc)?;
+    let stems = list_stems(alloc, object, functions, ends, texts, &mut marks)?;
+    let first = first_symbols(alloc, object, ends, texts, &marks, stems.as_slice())?;
     add_parents(alloc, object, functions, stems.as_slice(), first.as_slice())
 }
 

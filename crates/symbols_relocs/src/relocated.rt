@@ -24,8 +24,9 @@ fn is_changed(index: &Index<'_, '_>, place: Place) -> bool
     change_some(index.relocs_at(place))
 }
 
-/// Whether a relocation of any type but 0, `R_X86_64_NONE`, begins at one of so many bytes from a place on.
-pub fn is_relocated(index: &Index<'_, '_>, place: Place, len: u8) -> bool
+/// Whether a relocation changes a field that begins at one of so many bytes from a place on, by each of them.
+#[inline(never)]
+fn is_some_changed(index: &Index<'_, '_>, place: Place, len: u8) -> bool
     requires { place.off + len < 2 ^ 64 }
     ensures { result ≡ is_relocated_in index.now.elf place len }
 {
@@ -37,4 +38,15 @@ pub fn is_relocated(index: &Index<'_, '_>, place: Place, len: u8) -> bool
         }
     }
     false
+}
+
+/// Whether a relocation of any type but 0, `R_X86_64_NONE`, begins at one of so many bytes from a place on.
+pub fn is_relocated(index: &Index<'_, '_>, place: Place, len: u8) -> bool
+    requires { place.off + len < 2 ^ 64 }
+    ensures { result ≡ is_relocated_in index.now.elf place len }
+{
+    if index.lacks_relocs(place, len) {
+        return false;
+    }
+    is_some_changed(index, place, len)
 }
