@@ -3,6 +3,7 @@ pub mod Languages
 pub mod Escapes
 pub mod Vectors
 pub mod Starts
+pub mod UsualReading
 pub mod Verdicts
 pub mod Complete
 pub mod Spelled

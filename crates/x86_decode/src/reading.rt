@@ -291,7 +291,7 @@ fn read_operands(opcode: &Opcode, bytes: &[u8]) -> Result<Insn, ReadStop>
 }
 
 #[tactic(auto, unfolding(crate::specs::Reading::modrm_at, crate::specs::Reading::modrm_fits, crate::specs::Reading::sib_at))]
-#[inline(always)]
+#[inline(never)]
 fn read_modrm(opcode: &Opcode, bytes: &[u8]) -> Result<Insn, ReadStop>
     requires { opcode.now.end + length bytes.now ≤ 15 }
     ensures { result ≡ modrm_at opcode.now.prefixes opcode.now.number opcode.now.byte opcode.now.end bytes.now }
@@ -323,7 +323,7 @@ fn read_sib(opcode: &Opcode, modrm: u8, shape: Shape, bytes: &[u8]) -> Result<In
 }
 
 #[tactic(auto, unfolding(crate::specs::Reading::rest_at))]
-#[inline(always)]
+#[inline(never)]
 fn read_rest(
     opcode: &Opcode,
     modrm: Option<u8>,
@@ -341,28 +341,41 @@ fn read_rest(
     }
     let (displacement, rest) = bytes.split_at(len);
     let (immediate, _) = rest.split_at(imm);
-    Ok(finished(opcode, modrm, sib, shape, displacement, immediate))
+    Ok(finished(
+        &opcode.prefixes,
+        opcode.number,
+        opcode.byte,
+        opcode.end,
+        modrm,
+        sib,
+        shape,
+        displacement,
+        immediate,
+    ))
 }
 
 #[tactic(auto, unfolding(crate::specs::Reading::finished))]
 #[inline(always)]
-fn finished(
-    opcode: &Opcode,
+pub(crate) fn finished(
+    p: &Prefixes,
+    number: u8,
+    opcode: u8,
+    end: u8,
     modrm: Option<u8>,
     sib: Option<u8>,
     shape: Shape,
     displacement: &[u8],
     immediate: &[u8],
 ) -> Insn
-    requires { opcode.now.end + length (optional modrm) + length (optional sib)
+    requires { end + length (optional modrm) + length (optional sib)
         + length displacement.now + length immediate.now ≤ 15 }
-    ensures { result ≡ finished opcode.now.prefixes opcode.now.number opcode.now.byte modrm sib shape opcode.now.end displacement.now immediate.now }
+    ensures { result ≡ finished p.now number opcode modrm sib shape end displacement.now immediate.now }
 {
-    let displacement_at = opcode.end + count(modrm) + count(sib);
+    let displacement_at = end + count(modrm) + count(sib);
     let op = operation_of(&Fields {
-        prefixes: opcode.prefixes,
-        number: opcode.number,
-        opcode: opcode.byte,
+        prefixes: *p,
+        number,
+        opcode,
         modrm,
         sib,
         shape,
@@ -374,7 +387,7 @@ fn finished(
     Insn { len, op }
 }
 
-fn count(byte: Option<u8>) -> u8
+pub(crate) fn count(byte: Option<u8>) -> u8
     ensures { result ≡ length (optional byte) }
 {
     match byte {
@@ -384,14 +397,14 @@ fn count(byte: Option<u8>) -> u8
 }
 
 /// Whether a SIB byte follows.
-fn has_sib(modrm: u8) -> bool
+pub(crate) fn has_sib(modrm: u8) -> bool
     ensures { result ≡ has_sib (Some modrm) }
 {
     modrm / 64 < 3 && modrm % 8 == 4
 }
 
 /// How many bytes the displacement has.
-fn displacement_len(modrm: Option<u8>, sib: Option<u8>) -> usize
+pub(crate) fn displacement_len(modrm: Option<u8>, sib: Option<u8>) -> usize
     ensures value { result ≡ displacement_len modrm sib }
     ensures short { result ≤ 4 }
 {
