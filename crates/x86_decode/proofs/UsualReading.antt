@@ -1,8 +1,9 @@
 -- The usual instructions are read as all are.
-use Rattle.std.proofs.Common.{◌≡◌, ℕ, ◌+◌, ◌-◌, ◌<◌, Bool, true, false, cond, eqb, List, ◌∷◌, length, get_or, drop, Option, Some, None, Ok, Err, refl, sym, ap, ◌∙◌, arith, add-one, []}
+use Rattle.std.proofs.Common.{◌≡◌, ℕ, ◌+◌, ◌-◌, ◌<◌, ◌≤◌, Bool, true, false, cond, eqb, List, ◌∷◌, length, get_or, drop, Option, Some, None, Ok, Err, refl, sym, ap, ◌∙◌, arith, add-one, [], take, ltb}
 use Rattle.std.specs.Prelude.{◌&&◌, ◌||◌, IfSome}
 use Rattle.std.specs.Bool.{then_some}
-use Rattle.std.proofs.lemmas.Bool.{eqb-true}
+use Rattle.std.proofs.lemmas.Bool.{eqb-true, le-ltb}
+use Rattle.std.proofs.lemmas.List.{length-take, length-drop}
 use Rattle.x86_decode.specs.declared.reading.ReadStop.TheVariants.{Dead}
 use Rattle.std.proofs.Math.Seq.{drop-cons}
 use Rattle.operation_defs.specs.declared.insn.Insn.{Insn}
@@ -11,12 +12,19 @@ use Rattle.x86_map.specs.declared.prefixes.Prefixes.{Prefixes}
 use Rattle.x86_map.specs.declared.shape.Shape.{Shape}
 use Rattle.x86_map.specs.declared.shape.Look.{Look}
 use Rattle.x86_map.specs.declared.shape.Look.TheVariants.{Refused, NeedModrm, Fits}
-use Rattle.x86_map.specs.Prefixes.{is_rex, is_bare}
+use Rattle.x86_map.specs.Prefixes.{is_rex, is_rex_valid, is_bare}
 use Rattle.x86_map.specs.OpcodeMap.{look, stands}
 use Rattle.x86_map.proofs.Modrm.{look-asks}
 use Rattle.x86_decode.specs.Prefix.{is_legacy}
 use Rattle.x86_decode.specs.Spelling.{optional, has_sib}
-use Rattle.x86_decode.specs.Reading.{rest_at, sib_at, modrm_fits, modrm_at, operands_by, operands_at, two_byte_in, two_byte_at, is_whole, is_vector_escape, opcode_at, with_rex, rex_at, prefixes_at, no_prefixes, reading}
+use Rattle.x86_decode.specs.Reading.{finished, rest_at, sib_at, modrm_fits, modrm_at, operands_by, operands_at, two_byte_in, two_byte_at, is_whole, is_vector_escape, opcode_at, with_rex, rex_at, prefixes_at, no_prefixes, reading}
+use Rattle.operation_defs.specs.declared.op.Op.{Op}
+use Rattle.x86_decode.specs.declared.fields.Fields.{Fields}
+use Rattle.x86_decode.specs.Fields.{signed}
+use Rattle.x86_decode.specs.Action.{action_of}
+use Rattle.x86_decode.specs.Operation.{operation_by, operation}
+use Rattle.x86_decode.specs.UsualForms.{usual_prefixes, branch_len}
+use Rattle.x86_decode.proofs.UsualLooks.{branch_shape, branch_fits}
 use Rattle.x86_decode.proofs.Escapes.{is_prefix_or_escape, fits-no_prefix, escape-refused, escape_3A-refused, rex-no_legacy}
 
 -- what holds of a value that may be there
@@ -72,6 +80,32 @@ pub usual_operands_by : (takes has : Bool) (p : Prefixes) (number opcode end n k
     → look p number opcode modrm ≡ Fits shape → rest_at p number opcode modrm sib shape end (drop (end + n + k) bytes) ≡ Ok insn → operands_at p number opcode end (drop end bytes) ≡ Ok insn
 usual_operands_by takes has p number opcode end n k modrm sib shape bytes insn low high lt room modrm-is has-is n-is sib-is k-is fits read =
     usual_operands takes p number opcode end shape bytes insn low high lt room (rw modrm-is at fits) (rw (k-is, sib-is, has-is, n-is, modrm-is) at read)
+
+-- ---- near branches
+
+abbrev insn_of : ℕ → Op → Insn
+insn_of len op = record { len = len; op = op }
+
+insn_is : (a b : ℕ) (x y : Op) → a ≡ b → x ≡ y → insn_of a x ≡ insn_of b y
+insn_is a b x y e f = rw (e, f) refl
+
+branch_rest : (p : Prefixes) (number opcode end len : ℕ) (rest : List ℕ) (op : Op) → len ≤ length rest
+    → ((f : Fields) → f.immediate ≡ signed (take len rest) → operation_by (action_of number opcode) f ≡ op)
+    → rest_at p number opcode None None (branch_shape len) end rest ≡ Ok (insn_of (end + len) op)
+unfolding rest_at finished operation
+branch_rest p number opcode end len rest op room does =
+    let long : ltb (length rest) (0 + len) ≡ false = le-ltb _ _ (omega arith) in
+    let size : end + 0 + 0 + length (take 0 rest) + length (take len (drop 0 rest)) ≡ end + len = omega (arith, length-take len rest) in
+    rw long (ap (λ (insn : Insn). Ok insn) (insn_is _ _ _ _ size (does _ refl)))
+
+pub branch_read : (m : Map) (rex : Option ℕ) (number opcode end len : ℕ) (bytes : List ℕ) (op : Op) → 0 < number → number < 3 → opcode < 256 → is_rex_valid rex ≡ true
+    → branch_len number opcode ≡ Some len → end + len ≤ length bytes
+    → ((f : Fields) → f.immediate ≡ signed (take len (drop end bytes)) → operation_by (action_of number opcode) f ≡ op)
+    → operands_at (usual_prefixes m rex) number opcode end (drop end bytes) ≡ Ok (insn_of (end + len) op)
+branch_read m rex number opcode end len bytes op low high lt valid is room does =
+    let p = usual_prefixes m rex in
+    without_modrm p number opcode end (branch_shape len) (drop end bytes) (insn_of (end + len) op) (branch_fits m rex number opcode len low high lt valid is)
+    (branch_rest p number opcode end len (drop end bytes) op (omega (arith, length-drop end bytes)) does)
 
 -- ---- the opcode
 
@@ -140,28 +174,31 @@ one_byte p seen opcode bytes insn lt read =
     let escapes = either (eqb opcode 0x0F) (is_vector_escape opcode) parts.1 in
     rw (escapes.0, escapes.1, and_false (is_whole p.map && is_bare p)) read
 
-pub usual_opcode : (p : Prefixes) (seen : ℕ) (bytes : List ℕ) (insn : Insn) → seen + 1 < length bytes → get_or bytes seen 0 < 256 → stands p 2 ≡ true
+stands_usual : (m : Map) (rex : Option ℕ) → is_rex_valid rex ≡ true → stands (usual_prefixes m rex) 2 ≡ true
+stands_usual m rex valid = rw valid refl
+
+pub usual_opcode : (m : Map) (rex : Option ℕ) (seen : ℕ) (bytes : List ℕ) (insn : Insn) → seen + 1 < length bytes → get_or bytes seen 0 < 256 → is_rex_valid rex ≡ true
     → (number : ℕ) → number ≡ cond (eqb (get_or bytes seen 0) 0x0F) 2 1
-    → operands_at p number (get_or bytes (seen + number - 1) 0) (seen + number) (drop (seen + number) bytes) ≡ Ok insn → opcode_at p seen (drop seen bytes) ≡ Ok insn
-usual_opcode p seen bytes insn room lt stand number is read = elim (eqb (get_or bytes seen 0) 0x0F) as (λ b. eqb (get_or bytes seen 0) 0x0F ≡ b → opcode_at p seen (drop seen bytes) ≡ Ok insn) [
+    → operands_at (usual_prefixes m rex) number (get_or bytes (seen + number - 1) 0) (seen + number) (drop (seen + number) bytes) ≡ Ok insn → opcode_at (usual_prefixes m rex) seen (drop seen bytes) ≡ Ok insn
+usual_opcode m rex seen bytes insn room lt valid number is read = elim (eqb (get_or bytes seen 0) 0x0F) as (λ b. eqb (get_or bytes seen 0) 0x0F ≡ b → opcode_at (usual_prefixes m rex) seen (drop seen bytes) ≡ Ok insn) [
   | true ↦ λ e.
       let two : number ≡ 2 = is ∙ rw e refl in
       let at : seen + number - 1 ≡ seen + 1 = omega (arith, two) in
       let end : seen + number ≡ seen + 2 = omega (arith, two) in
       let behind : seen + 1 + 1 ≡ seen + 2 = omega arith in
       let opcode = get_or bytes (seen + 1) 0 in
-      let read_at : operands_at p 2 opcode (seen + 2) (drop (seen + 2) bytes) ≡ Ok insn = rw (at, end, two) at read in
+      let read_at : operands_at (usual_prefixes m rex) 2 opcode (seen + 2) (drop (seen + 2) bytes) ≡ Ok insn = rw (at, end, two) at read in
       let split : drop seen bytes ≡ 0x0F ∷ opcode ∷ drop (seen + 2) bytes =
       at_place bytes seen (omega arith) ∙ ap (λ (b : ℕ). b ∷ drop (seen + 1) bytes) (eqb-true (get_or bytes seen 0) 0x0F e)
       ∙ ap (λ (t : List ℕ). 0x0F ∷ t) (at_place bytes (seen + 1) (omega arith) ∙ ap (λ (n : ℕ). opcode ∷ drop n bytes) behind) in
-      ap (opcode_at p seen) split ∙ two_byte p seen opcode (drop (seen + 2) bytes) insn stand read_at
+      ap (opcode_at (usual_prefixes m rex) seen) split ∙ two_byte (usual_prefixes m rex) seen opcode (drop (seen + 2) bytes) insn (stands_usual m rex valid) read_at
   | false ↦ λ e.
       let one : number ≡ 1 = is ∙ rw e refl in
       let at : seen + number - 1 ≡ seen = omega (arith, one) in
       let end : seen + number ≡ seen + 1 = omega (arith, one) in
       let opcode = get_or bytes seen 0 in
-      let read_at : operands_at p 1 opcode (seen + 1) (drop (seen + 1) bytes) ≡ Ok insn = rw (at, end, one) at read in
-      ap (opcode_at p seen) (at_place bytes seen (omega arith)) ∙ one_byte p seen opcode (drop (seen + 1) bytes) insn lt read_at
+      let read_at : operands_at (usual_prefixes m rex) 1 opcode (seen + 1) (drop (seen + 1) bytes) ≡ Ok insn = rw (at, end, one) at read in
+      ap (opcode_at (usual_prefixes m rex) seen) (at_place bytes seen (omega arith)) ∙ one_byte (usual_prefixes m rex) seen opcode (drop (seen + 1) bytes) insn lt read_at
 ] refl
 
 escape_no_legacy : (opcode : ℕ) → opcode < 256 → is_vector_escape opcode ≡ true → is_legacy opcode ≡ false
@@ -195,13 +232,9 @@ unfolding reading prefixes_at rex_at
 without_rex map first bytes insn lt is read = rw (opcode_no_legacy (no_prefixes map) 0 first bytes insn lt read, is) read
 
 pub usual : (b : Bool) (map : Map) (bytes : List ℕ) (insn : Insn) → 0 < length bytes → get_or bytes 0 0 < 256 → is_rex (get_or bytes 0 0) ≡ b
-    → (let rex = then_some b (get_or bytes 0 0) in opcode_at (record (no_prefixes map) { rex = rex }) (length (optional rex)) (drop (length (optional rex)) bytes) ≡ Ok insn)
+    → (let rex = then_some b (get_or bytes 0 0) in opcode_at (usual_prefixes map rex) (length (optional rex)) (drop (length (optional rex)) bytes) ≡ Ok insn)
     → reading map bytes ≡ Ok insn
 usual true map bytes insn some lt is read =
     ap (reading map) (at_place bytes 0 some) ∙ behind_rex map (get_or bytes 0 0) (drop 1 bytes) insn lt is read
 usual false map bytes insn some lt is read =
     ap (reading map) (at_place bytes 0 some) ∙ without_rex map (get_or bytes 0 0) (drop 1 bytes) insn lt is (sym (ap (opcode_at (no_prefixes map) 0) (at_place bytes 0 some)) ∙ read)
-
-pub stands_usual : (b : Bool) (map : Map) (first : ℕ) → is_rex first ≡ b → stands (record (no_prefixes map) { rex = then_some b first }) 2 ≡ true
-stands_usual true map first is = rw is refl
-stands_usual false map first is = refl

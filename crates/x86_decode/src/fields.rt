@@ -13,12 +13,10 @@ ghost use Rattle.x86_decode.specs.Fields.{
   is_at_rsp,
   is_at_rbp,
   is_table_entry,
-  writes,
-  writes_number,
 };
 
 use byteorder::{ByteOrder, LittleEndian};
-use x86_map::{Prefixes, Shape, Write};
+use x86_map::{Prefixes, Shape};
 
 /// What an instruction's operation is made from.
 #[derive(Clone, Copy)]
@@ -148,33 +146,6 @@ impl Fields {
             && sib / 64 == 3
             && (sib / 8 % 8 != 4 || self.prefixes.rex_x())
             && self.is_plain_address()
-    }
-
-    /// Whether it writes the register of this number, 4 or 5.
-    #[inline(always)]
-    pub(crate) fn writes(&self, number: u8) -> bool
-        ensures { result ≡ writes self.now number }
-    {
-        !(self.shape.written.byte && self.prefixes.rex.is_none()) && self.writes_number(number)
-    }
-
-    #[inline(always)]
-    fn writes_number(&self, number: u8) -> bool
-        ensures { result ≡ writes_number self.now.shape.written.write self.now number }
-    {
-        match self.shape.written.write {
-            Write::Nothing => false,
-            Write::Rm => self.is_register() && self.rm_register() == number,
-            Write::Reg => self.reg_register() == number,
-            Write::Both => {
-                self.reg_register() == number || self.is_register() && self.rm_register() == number
-            }
-            Write::Opcode => self.opcode_register() == number,
-            Write::Vvvv => self.prefixes.vvvv_register() == number,
-            Write::RegAndVvvv => {
-                self.reg_register() == number || self.prefixes.vvvv_register() == number
-            }
-        }
     }
 }
 

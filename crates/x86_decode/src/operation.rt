@@ -1,4 +1,5 @@
-ghost use Rattle.std.specs.Prelude.{◌≡◌, unwrap_or};
+ghost use Rattle.std.specs.Prelude.{◌≡◌, ◌==◌, ◌||◌, if◌then◌else◌, unwrap_or};
+ghost use Rattle.operation_defs.specs.declared.op.Op.TheVariants as ops;
 ghost use Rattle.x86_decode.specs.Operation.{
   written,
   pushed,
@@ -24,6 +25,7 @@ ghost use Rattle.x86_decode.specs.Operation.{
 use crate::action::{Action, action_at};
 use crate::fields::Fields;
 use operation_defs::Op;
+use x86_map::Write;
 
 /// What an instruction does.
 #[tactic(auto, unfolding(crate::specs::Operation::operation))]
@@ -106,9 +108,42 @@ fn own_operation(action: Action, f: &Fields) -> Option<Op>
 fn written(f: &Fields) -> Op
     ensures { result ≡ written f.now }
 {
-    if f.writes(4) {
+    if f.shape.written.byte && f.prefixes.rex.is_none() {
+        return Op::Plain;
+    }
+    match f.shape.written.write {
+        Write::Nothing => Op::Plain,
+        Write::Rm if f.is_register() => register_written(f.rm_register()),
+        Write::Rm => Op::Plain,
+        Write::Reg => register_written(f.reg_register()),
+        Write::Both if f.is_register() => { either_written(f.reg_register(), f.rm_register()) }
+        Write::Both => register_written(f.reg_register()),
+        Write::Opcode => register_written(f.opcode_register()),
+        Write::Vvvv => register_written(f.prefixes.vvvv_register()),
+        Write::RegAndVvvv => { either_written(f.reg_register(), f.prefixes.vvvv_register()) }
+    }
+}
+
+/// What an instruction does that writes the register of this number.
+#[inline(always)]
+fn register_written(register: u8) -> Op
+    ensures { result ≡ (if register == 4 then ops.SpOther else (if register == 5 then ops.BpOther else ops.Plain)) }
+{
+    match register {
+        4 => Op::SpOther,
+        5 => Op::BpOther,
+        _ => Op::Plain,
+    }
+}
+
+/// What an instruction does that writes both registers of these numbers.
+#[inline(always)]
+fn either_written(one: u8, other: u8) -> Op
+    ensures { result ≡ (if (one == 4) || (other == 4) then ops.SpOther else (if (one == 5) || (other == 5) then ops.BpOther else ops.Plain)) }
+{
+    if one == 4 || other == 4 {
         Op::SpOther
-    } else if f.writes(5) {
+    } else if one == 5 || other == 5 {
         Op::BpOther
     } else {
         Op::Plain

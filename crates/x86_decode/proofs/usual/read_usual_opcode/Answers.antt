@@ -12,5 +12,5 @@ returns c =
       | then-bytes-seen-eq15 w ↦ rw w.if-bytes-seen-eq15.true w.number-is
       | else-bytes-seen-eq15 w ↦ rw (ne_eqb _ _ w.if-bytes-seen-eq15.false) w.number-is
     ] in
-    map_some _ _ c.read_usual_operands.result (λ insn read.
-    usual_opcode c.args.p.now c.args.seen c.args.bytes.now insn (omega (arith, c.requires.whole)) (omega (arith, c.type_inv.bytes c.args.seen)) c.requires.stands number is read) c.read_usual_operands.ensures
+    map_some _ _ c.read_behind_opcode.result (λ insn read.
+    usual_opcode c.args.map c.args.rex c.args.seen c.args.bytes.now insn (omega (arith, c.requires.whole)) (omega (arith, c.type_inv.bytes c.args.seen)) c.requires.valid number is read) c.read_behind_opcode.ensures
