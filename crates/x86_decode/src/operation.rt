@@ -28,9 +28,17 @@ use operation_defs::Op;
 use x86_map::Write;
 
 /// What an instruction does.
+#[inline(never)]
+pub(crate) fn operation_of(f: &Fields) -> Op
+    ensures { result ≡ operation f.now }
+{
+    inline_operation_of(f)
+}
+
+/// The same, without a call.
 #[tactic(auto, unfolding(crate::specs::Operation::operation))]
 #[inline(always)]
-pub(crate) fn operation_of(f: &Fields) -> Op
+pub(crate) fn inline_operation_of(f: &Fields) -> Op
     ensures { result ≡ operation f.now }
 {
     operation_by(action_at(f.number, f.opcode), f)

@@ -2,7 +2,7 @@
 
 ghost use Rattle.std.specs.Prelude.{◌≡◌, ◌+◌, ◌≤◌, ◌<◌, ℕ, true, length, Some, None};
 ghost use Rattle.x86_map.specs.Vector.{vex_number, evex_number, is_evex_second, number_of};
-ghost use Rattle.x86_decode.specs.Spelling.{optional, has_sib, has_base_5, displacement_len};
+ghost use Rattle.x86_decode.specs.Spelling.{optional, has_sib, has_base_5, displacement_len, fields_of};
 ghost use Rattle.x86_decode.specs.Reading.{
   finished,
   rest_at,
@@ -291,7 +291,7 @@ fn read_operands(opcode: &Opcode, bytes: &[u8]) -> Result<Insn, ReadStop>
 }
 
 #[tactic(auto, unfolding(crate::specs::Reading::modrm_at, crate::specs::Reading::modrm_fits, crate::specs::Reading::sib_at))]
-#[inline(never)]
+#[inline(always)]
 fn read_modrm(opcode: &Opcode, bytes: &[u8]) -> Result<Insn, ReadStop>
     requires { opcode.now.end + length bytes.now ≤ 15 }
     ensures { result ≡ modrm_at opcode.now.prefixes opcode.now.number opcode.now.byte opcode.now.end bytes.now }
@@ -323,7 +323,7 @@ fn read_sib(opcode: &Opcode, modrm: u8, shape: Shape, bytes: &[u8]) -> Result<In
 }
 
 #[tactic(auto, unfolding(crate::specs::Reading::rest_at))]
-#[inline(never)]
+#[inline(always)]
 fn read_rest(
     opcode: &Opcode,
     modrm: Option<u8>,
@@ -341,7 +341,24 @@ fn read_rest(
     }
     let (displacement, rest) = bytes.split_at(len);
     let (immediate, _) = rest.split_at(imm);
-    Ok(finished(
+    Ok(finished(opcode, modrm, sib, shape, displacement, immediate))
+}
+
+#[tactic(auto, unfolding(crate::specs::Reading::finished))]
+#[inline(always)]
+fn finished(
+    opcode: &Opcode,
+    modrm: Option<u8>,
+    sib: Option<u8>,
+    shape: Shape,
+    displacement: &[u8],
+    immediate: &[u8],
+) -> Insn
+    requires { opcode.now.end + length (optional modrm) + length (optional sib)
+        + length displacement.now + length immediate.now ≤ 15 }
+    ensures { result ≡ finished opcode.now.prefixes opcode.now.number opcode.now.byte modrm sib shape opcode.now.end displacement.now immediate.now }
+{
+    let f = fields_of(
         &opcode.prefixes,
         opcode.number,
         opcode.byte,
@@ -351,12 +368,16 @@ fn read_rest(
         shape,
         displacement,
         immediate,
-    ))
+    );
+    Insn {
+        len: f.displacement_at + displacement.len() as u8 + immediate.len() as u8,
+        op: operation_of(&f),
+    }
 }
 
-#[tactic(auto, unfolding(crate::specs::Reading::finished))]
+/// The fields of an instruction whose prefixes and opcode have so many bytes.
 #[inline(always)]
-pub(crate) fn finished(
+pub(crate) fn fields_of(
     p: &Prefixes,
     number: u8,
     opcode: u8,
@@ -366,13 +387,11 @@ pub(crate) fn finished(
     shape: Shape,
     displacement: &[u8],
     immediate: &[u8],
-) -> Insn
-    requires { end + length (optional modrm) + length (optional sib)
-        + length displacement.now + length immediate.now ≤ 15 }
-    ensures { result ≡ finished p.now number opcode modrm sib shape end displacement.now immediate.now }
+) -> Fields
+    requires { end + length (optional modrm) + length (optional sib) ≤ 15 }
+    ensures { result ≡ fields_of p.now number opcode end (record { modrm = modrm; sib = sib; displacement = displacement.now; immediate = immediate.now }) shape }
 {
-    let displacement_at = end + count(modrm) + count(sib);
-    let op = operation_of(&Fields {
+    Fields {
         prefixes: *p,
         number,
         opcode,
@@ -380,11 +399,9 @@ pub(crate) fn finished(
         sib,
         shape,
         displacement: signed_number(displacement),
-        displacement_at,
+        displacement_at: end + count(modrm) + count(sib),
         immediate: signed_number(immediate),
-    });
-    let len = displacement_at + displacement.len() as u8 + immediate.len() as u8;
-    Insn { len, op }
+    }
 }
 
 pub(crate) fn count(byte: Option<u8>) -> u8

@@ -15,8 +15,9 @@ ghost use Rattle.x86_decode.specs.UsualForms.{usual_prefixes, branch_len, modrm_
 
 use crate::action::{Action, action_at};
 use crate::fields::signed_number;
+use crate::operation::inline_operation_of;
 use crate::prefix::no_prefixes;
-use crate::reading::{count, displacement_len, finished, has_sib};
+use crate::reading::{count, displacement_len, fields_of, has_sib};
 use operation_defs::{Insn, Op};
 use x86_map::{Look, Map, Prefixes, Shape, Write, Written, lookup};
 
@@ -265,10 +266,25 @@ fn two_byte_written(opcode: u8) -> Option<Written>
 fn look_shape(p: &Prefixes, number: u8, opcode: u8, first: u8) -> Option<Shape>
     ensures { IfSome result (λ shape. look p.now number opcode (then_some shape.modrm first) ≡ Fits shape) }
 {
+    if begins_others(number, opcode) {
+        return None;
+    }
     let modrm = mostly_takes_modrm(number, opcode).then_some(first);
     match lookup(p, number, opcode, modrm) {
         Look::Fits(shape) if shape.modrm == modrm.is_some() => Some(shape),
         _ => None,
+    }
+}
+
+/// Whether it is a prefix or leads to another map, as far as this tells. No contract says so.
+#[inline(always)]
+fn begins_others(number: u8, opcode: u8) -> bool {
+    match opcode {
+        0x26 | 0x2E | 0x36 | 0x3E | 0x62 | 0x64..=0x67 | 0xC4 | 0xC5 | 0xF0 | 0xF2 | 0xF3 => {
+            number == 1
+        }
+        0x38 | 0x3A => number == 2,
+        _ => false,
     }
 }
 
@@ -308,7 +324,7 @@ fn takes_sib(modrm: Option<u8>) -> bool
 }
 
 /// Behind the SIB byte.
-#[tactic(auto, unfolding(crate::specs::Reading::rest_at))]
+#[tactic(auto, unfolding(crate::specs::Reading::rest_at, crate::specs::Reading::finished))]
 #[inline(always)]
 fn read_usual_rest(
     p: &Prefixes,
@@ -330,7 +346,7 @@ fn read_usual_rest(
     }
     let (displacement, rest) = bytes.split_at(len);
     let (immediate, _) = rest.split_at(imm);
-    Some(finished(
+    let f = fields_of(
         p,
         number,
         opcode,
@@ -340,5 +356,9 @@ fn read_usual_rest(
         shape,
         displacement,
         immediate,
-    ))
+    );
+    Some(Insn {
+        len: f.displacement_at + displacement.len() as u8 + immediate.len() as u8,
+        op: inline_operation_of(&f),
+    })
 }
