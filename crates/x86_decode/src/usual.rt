@@ -211,6 +211,7 @@ fn usual_shape(map: Map, rex: Option<u8>, number: u8, opcode: u8, first: u8) -> 
             imm: 0,
             written,
         }),
+        None if begins_others(number, opcode) => None,
         None => look_shape(&usual_prefixes(map, rex), number, opcode, first),
     }
 }
@@ -266,9 +267,6 @@ fn two_byte_written(opcode: u8) -> Option<Written>
 fn look_shape(p: &Prefixes, number: u8, opcode: u8, first: u8) -> Option<Shape>
     ensures { IfSome result (λ shape. look p.now number opcode (then_some shape.modrm first) ≡ Fits shape) }
 {
-    if begins_others(number, opcode) {
-        return None;
-    }
     let modrm = mostly_takes_modrm(number, opcode).then_some(first);
     match lookup(p, number, opcode, modrm) {
         Look::Fits(shape) if shape.modrm == modrm.is_some() => Some(shape),
