@@ -1,9 +1,12 @@
 -- The prefixes of the usual instructions, and what follows some of their opcodes.
-use Rattle.std.specs.Prelude.{ℕ, true, false, ◌&&◌, ◌||◌, ◌==◌, nat_lt, if◌then◌else◌, [], ◌∷◌, Option, Some, None}
+use Rattle.std.specs.Prelude.{ℕ, Bool, true, false, ◌||◌, ◌==◌, nat_lt, if◌then◌else◌, [], ◌∷◌, Option, Some, None}
 use Rattle.x86_map.specs.declared.map.Map.{Map}
 use Rattle.x86_map.specs.declared.prefixes.Prefixes.{Prefixes}
 use Rattle.x86_map.specs.declared.shape.Written.{Written}
+use Rattle.x86_map.specs.declared.shape.Write.{Write}
+use Rattle.x86_map.specs.declared.shape.Shape.{Shape}
 use Rattle.x86_map.specs.declared.shape.Write.TheVariants as write
+use Rattle.x86_map.specs.Form.{modrm_reg}
 use Rattle.x86_map.specs.Row.{◌to◌, one_of}
 use Rattle.x86_decode.specs.Reading.{no_prefixes}
 
@@ -48,8 +51,33 @@ modrm_written number opcode =
     else (if (0x40 to 0x4F) opcode || one_of (0xAF ∷ 0xB6 ∷ 0xB7 ∷ 0xBE ∷ 0xBF ∷ []) opcode then Some reg else None))
     else None)
 
--- likewise, with LEA, which ModRM bytes of memory alone follow
-abbrev pub usual_written : ℕ → ℕ → ℕ → Option Written
-usual_written number opcode modrm =
-    if (number == 1) && (opcode == 0x8D) then (if nat_lt modrm 0xC0 then Some reg else None)
-    else modrm_written number opcode
+-- ModRM, an immediate of so many bytes, and which register is written
+abbrev pub modrm_shape : ℕ → Bool → Write → Shape
+modrm_shape imm byte write = record { modrm = true; imm = imm; written = record { byte = byte; write = write } }
+
+-- ADD to XOR of an immediate; CMP, the last digit, writes nothing
+abbrev pub group_1_shape : ℕ → Bool → ℕ → Shape
+group_1_shape imm byte digit = if digit == 7 then modrm_shape imm false write.Nothing else modrm_shape imm byte write.Rm
+
+-- ModRM and no immediate
+abbrev pub shape_of : Option Written → Option Shape
+shape_of None = None
+shape_of (Some written) = Some (record { modrm = true; imm = 0; written = written })
+
+-- one-byte opcodes: with LEA, which ModRM bytes of memory alone follow, and with MOV of an immediate, which digit 0 alone follows
+unfoldable pub one_byte_shape : ℕ → ℕ → Option Shape
+one_byte_shape opcode modrm =
+    if opcode == 0x80 then Some (group_1_shape 1 true (modrm_reg modrm))
+    else (if opcode == 0x81 then Some (group_1_shape 4 false (modrm_reg modrm))
+    else (if opcode == 0x83 then Some (group_1_shape 1 false (modrm_reg modrm))
+    else (if opcode == 0x8D then (if nat_lt modrm 0xC0 then Some (modrm_shape 0 false write.Reg) else None)
+    else (if opcode == 0xC0 then Some (modrm_shape 1 true write.Rm)
+    else (if opcode == 0xC1 then Some (modrm_shape 1 false write.Rm)
+    else (if opcode == 0xC6 then (if modrm_reg modrm == 0 then Some (modrm_shape 1 true write.Rm) else None)
+    else (if opcode == 0xC7 then (if modrm_reg modrm == 0 then Some (modrm_shape 4 false write.Rm) else None)
+    else shape_of (modrm_written 1 opcode))))))))
+
+-- what follows many opcodes that ModRM does, if this byte follows
+abbrev pub known_shape : ℕ → ℕ → ℕ → Option Shape
+known_shape number opcode modrm =
+    if number == 1 then one_byte_shape opcode modrm else (if number == 2 then shape_of (modrm_written 2 opcode) else None)

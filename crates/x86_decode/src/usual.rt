@@ -11,7 +11,16 @@ ghost use Rattle.x86_decode.specs.Spelling.{optional, has_sib};
 ghost use Rattle.x86_decode.specs.Reading.{reading, opcode_at, operands_at, rest_at};
 ghost use Rattle.x86_decode.specs.declared.fields.Fields.{Fields};
 ghost use Rattle.x86_decode.specs.Operation.{operation_by};
-ghost use Rattle.x86_decode.specs.UsualForms.{usual_prefixes, branch_len, modrm_written, usual_written};
+ghost use Rattle.x86_decode.specs.UsualForms.{
+  usual_prefixes,
+  branch_len,
+  modrm_written,
+  modrm_shape,
+  group_1_shape,
+  shape_of,
+  one_byte_shape,
+  known_shape,
+};
 
 use crate::action::{Action, action_at};
 use crate::fields::signed_number;
@@ -205,32 +214,79 @@ fn usual_shape(map: Map, rex: Option<u8>, number: u8, opcode: u8, first: u8) -> 
     requires valid { is_rex_valid rex ≡ true }
     ensures { IfSome result (λ shape. look (usual_prefixes map rex) number opcode (then_some shape.modrm first) ≡ Fits shape) }
 {
-    match usual_written(number, opcode, first) {
-        Some(written) => Some(Shape {
-            modrm: true,
-            imm: 0,
-            written,
-        }),
+    match known_shape(number, opcode, first) {
+        Some(shape) => Some(shape),
         None if begins_others(number, opcode) => None,
         None => look_shape(&usual_prefixes(map, rex), number, opcode, first),
     }
 }
 
-/// What is written by many opcodes that ModRM and no immediate follow.
-#[tactic(auto, unfolding(crate::specs::UsualForms::modrm_written))]
+/// What follows many opcodes that ModRM does, if this byte follows.
 #[inline(always)]
-fn usual_written(number: u8, opcode: u8, modrm: u8) -> Option<Written>
-    ensures { result ≡ usual_written number opcode modrm }
+fn known_shape(number: u8, opcode: u8, modrm: u8) -> Option<Shape>
+    ensures { result ≡ known_shape number opcode modrm }
 {
     match number {
-        1 if opcode == 0x8D => (modrm < 0xC0).then_some(Written {
-            byte: false,
-            write: Write::Reg,
-        }),
-        1 => one_byte_written(opcode),
-        2 => two_byte_written(opcode),
+        1 => one_byte_shape(opcode, modrm),
+        2 => shape_of(two_byte_written(opcode)),
         _ => None,
     }
+}
+
+#[tactic(auto, unfolding(crate::specs::UsualForms::one_byte_shape))]
+#[inline(always)]
+fn one_byte_shape(opcode: u8, modrm: u8) -> Option<Shape>
+    ensures { result ≡ one_byte_shape opcode modrm }
+{
+    let digit = modrm / 8 % 8;
+    match opcode {
+        0x80 => Some(group_1_shape(1, true, digit)),
+        0x81 => Some(group_1_shape(4, false, digit)),
+        0x83 => Some(group_1_shape(1, false, digit)),
+        0x8D => (modrm < 0xC0).then_some(modrm_shape(0, false, Write::Reg)),
+        0xC0 => Some(modrm_shape(1, true, Write::Rm)),
+        0xC1 => Some(modrm_shape(1, false, Write::Rm)),
+        0xC6 => (digit == 0).then_some(modrm_shape(1, true, Write::Rm)),
+        0xC7 => (digit == 0).then_some(modrm_shape(4, false, Write::Rm)),
+        _ => shape_of(one_byte_written(opcode)),
+    }
+}
+
+/// ModRM and an immediate of so many bytes.
+#[inline(always)]
+fn modrm_shape(imm: u8, byte: bool, write: Write) -> Shape
+    ensures { result ≡ modrm_shape imm byte write }
+{
+    Shape {
+        modrm: true,
+        imm,
+        written: Written { byte, write },
+    }
+}
+
+/// ADD to XOR of an immediate; CMP, the last digit, writes nothing.
+#[inline(always)]
+fn group_1_shape(imm: u8, byte: bool, digit: u8) -> Shape
+    ensures { result ≡ group_1_shape imm byte digit }
+{
+    if digit == 7 {
+        modrm_shape(imm, false, Write::Nothing)
+    } else {
+        modrm_shape(imm, byte, Write::Rm)
+    }
+}
+
+/// ModRM and no immediate.
+#[inline(always)]
+fn shape_of(written: Option<Written>) -> Option<Shape>
+    ensures { result ≡ shape_of written }
+{
+    let written = written?;
+    Some(Shape {
+        modrm: true,
+        imm: 0,
+        written,
+    })
 }
 
 #[tactic(auto, unfolding(crate::specs::UsualForms::modrm_written))]
