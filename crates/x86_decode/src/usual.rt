@@ -217,7 +217,7 @@ fn usual_shape(map: Map, rex: Option<u8>, number: u8, opcode: u8, first: u8) -> 
     match known_shape(number, opcode, first) {
         Some(shape) => Some(shape),
         None if begins_others(number, opcode) => None,
-        None => look_shape(&usual_prefixes(map, rex), number, opcode, first),
+        None => Some(look_shape(&usual_prefixes(map, rex), number, opcode, first)?),
     }
 }
 
