@@ -7,3 +7,4 @@ pub mod Spelling
 pub mod Reading
 pub mod Decoding
 pub mod MapLaw
+pub mod UsualForms

@@ -71,6 +71,7 @@ pub enum Action {
 }
 
 /// What an opcode does. `number` is that of its map, as in `x86_map`: 1 for the one-byte opcodes, 2 for those behind 0F.
+#[inline(always)]
 pub(crate) fn action_at(number: u8, opcode: u8) -> Action
     ensures { result ≡ action_of number opcode }
 {
@@ -82,6 +83,7 @@ pub(crate) fn action_at(number: u8, opcode: u8) -> Action
 }
 
 #[tactic(auto, unfolding(crate::specs::Action::action_of))]
+#[inline(always)]
 fn one_byte_action(opcode: u8) -> Action
     ensures { result ≡ action_of 1 opcode }
 {
@@ -116,6 +118,7 @@ fn one_byte_action(opcode: u8) -> Action
 }
 
 #[tactic(auto, unfolding(crate::specs::Action::action_of))]
+#[inline(always)]
 fn two_byte_action(opcode: u8) -> Action
     ensures { result ≡ action_of 2 opcode }
 {

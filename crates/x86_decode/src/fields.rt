@@ -13,12 +13,10 @@ ghost use Rattle.x86_decode.specs.Fields.{
   is_at_rsp,
   is_at_rbp,
   is_table_entry,
-  writes,
-  writes_number,
 };
 
 use byteorder::{ByteOrder, LittleEndian};
-use x86_map::{Prefixes, Shape, Write};
+use x86_map::{Prefixes, Shape};
 
 /// What an instruction's operation is made from.
 #[derive(Clone, Copy)]
@@ -44,6 +42,7 @@ pub struct Fields {
 }
 
 /// The number in one or four bytes, with its sign; 0 for other lengths.
+#[inline(always)]
 pub(crate) fn signed_number(bytes: &[u8]) -> i32
     ensures { result ≡ signed bytes.now }
 {
@@ -55,54 +54,63 @@ pub(crate) fn signed_number(bytes: &[u8]) -> i32
 }
 
 impl Fields {
+    #[inline(always)]
     pub(crate) fn modrm(&self) -> u8
         ensures { result ≡ modrm self.now }
     {
         self.modrm.unwrap_or(0)
     }
 
+    #[inline(always)]
     fn sib(&self) -> u8
         ensures { result ≡ sib self.now }
     {
         self.sib.unwrap_or(0)
     }
 
+    #[inline(always)]
     pub(crate) fn is_register(&self) -> bool
         ensures { result ≡ is_register self.now }
     {
         self.modrm() / 64 == 3
     }
 
+    #[inline(always)]
     pub(crate) fn digit(&self) -> u8
         ensures { result ≡ digit self.now }
     {
         self.modrm() / 8 % 8
     }
 
+    #[inline(always)]
     pub(crate) fn reg_register(&self) -> u8
         ensures { result ≡ reg_register self.now }
     {
         extended(self.prefixes.rex_r(), self.digit())
     }
 
+    #[inline(always)]
     pub(crate) fn rm_register(&self) -> u8
         ensures { result ≡ rm_register self.now }
     {
         extended(self.prefixes.rex_b(), self.modrm() % 8)
     }
 
+    #[inline(always)]
     pub(crate) fn opcode_register(&self) -> u8
         ensures { result ≡ opcode_register self.now }
     {
         extended(self.prefixes.rex_b(), self.opcode % 8)
     }
 
+    #[inline(always)]
     fn is_plain_address(&self) -> bool
         ensures { result ≡ is_plain_address self.now }
     {
         !self.prefixes.has_67 && !self.prefixes.has_fs_gs
     }
 
+    #[inline(always)]
     pub(crate) fn is_at_rsp(&self) -> bool
         ensures { result ≡ is_at_rsp self.now }
     {
@@ -116,6 +124,7 @@ impl Fields {
             && self.is_plain_address()
     }
 
+    #[inline(always)]
     pub(crate) fn is_at_rbp(&self) -> bool
         ensures { result ≡ is_at_rbp self.now }
     {
@@ -126,6 +135,7 @@ impl Fields {
             && self.is_plain_address()
     }
 
+    #[inline(always)]
     pub(crate) fn is_table_entry(&self) -> bool
         ensures { result ≡ is_table_entry self.now }
     {
@@ -137,34 +147,10 @@ impl Fields {
             && (sib / 8 % 8 != 4 || self.prefixes.rex_x())
             && self.is_plain_address()
     }
-
-    /// Whether it writes the register of this number, 4 or 5.
-    pub(crate) fn writes(&self, number: u8) -> bool
-        ensures { result ≡ writes self.now number }
-    {
-        !(self.shape.written.byte && self.prefixes.rex.is_none()) && self.writes_number(number)
-    }
-
-    fn writes_number(&self, number: u8) -> bool
-        ensures { result ≡ writes_number self.now.shape.written.write self.now number }
-    {
-        match self.shape.written.write {
-            Write::Nothing => false,
-            Write::Rm => self.is_register() && self.rm_register() == number,
-            Write::Reg => self.reg_register() == number,
-            Write::Both => {
-                self.reg_register() == number || self.is_register() && self.rm_register() == number
-            }
-            Write::Opcode => self.opcode_register() == number,
-            Write::Vvvv => self.prefixes.vvvv_register() == number,
-            Write::RegAndVvvv => {
-                self.reg_register() == number || self.prefixes.vvvv_register() == number
-            }
-        }
-    }
 }
 
 /// A register's number from its three bits and a bit of REX, VEX or EVEX.
+#[inline(always)]
 fn extended(bit: bool, field: u8) -> u8
     requires { field < 8 }
     ensures { result ≡ extended bit field }

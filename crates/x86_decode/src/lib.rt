@@ -2,7 +2,7 @@
 //! (Intel SDM, volume 2, cut to the opcode map of `x86_map`).
 #![tactic(auto)]
 
-ghost use Rattle.std.specs.Prelude.{◌≡◌, true, ◌<◌, ◌≤◌, ◌↔◌, ℕ, length, IfOk};
+ghost use Rattle.std.specs.Prelude.{◌≡◌, true, ◌<◌, ◌≤◌, ◌↔◌, ℕ, length, IfOk, IfSome, Ok};
 ghost use Rattle.operation_defs.specs.Made.{is_decoded};
 ghost use Rattle.x86_decode.specs.MapLaw.{MapIsExact, WholeExtendsBase};
 ghost use Rattle.x86_decode.specs.Decoding.{StandsInFront, EndsOutside, IsCut, IsTooLong, OneOutcome, OneSpelling, decoded};
@@ -13,8 +13,10 @@ mod fields;
 mod operation;
 mod prefix;
 mod reading;
+mod usual;
 
 use crate::reading::{ReadStop, read};
+use crate::usual::read_usual;
 pub use fault_text::DecodeFaultText;
 pub use operation_defs::{Insn, Op};
 pub use x86_map::Map;
@@ -47,8 +49,34 @@ pub fn decode(map: Map, bytes: &[u8]) -> Result<Insn, DecodeFault>
     decode_front(map, bytes)
 }
 
-#[tactic(auto, unfolding(crate::specs::Decoding::decoded))]
+#[inline(always)]
 fn decode_front(map: Map, bytes: &[u8]) -> Result<Insn, DecodeFault>
+    ensures { result ≡ decoded map bytes.now }
+{
+    match decode_usual(map, bytes) {
+        Some(insn) => Ok(insn),
+        None => match decode_any(map, bytes) {
+            Ok(insn) => Ok(insn),
+            Err(fault) => Err(fault),
+        },
+    }
+}
+
+/// The instruction at the front of the bytes, if it is a usual one and as many bytes are there as one has at most.
+#[tactic(auto, unfolding(crate::specs::Decoding::decoded))]
+#[inline(always)]
+fn decode_usual(map: Map, bytes: &[u8]) -> Option<Insn>
+    ensures { IfSome result (λ insn. decoded map bytes.now ≡ Ok insn) }
+{
+    if bytes.len() < MAX_LEN {
+        return None;
+    }
+    read_usual(map, &bytes[..MAX_LEN])
+}
+
+#[tactic(auto, unfolding(crate::specs::Decoding::decoded))]
+#[inline(never)]
+fn decode_any(map: Map, bytes: &[u8]) -> Result<Insn, DecodeFault>
     ensures { result ≡ decoded map bytes.now }
 {
     let front = if bytes.len() < MAX_LEN {

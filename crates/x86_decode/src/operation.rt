@@ -1,4 +1,5 @@
-ghost use Rattle.std.specs.Prelude.{◌≡◌};
+ghost use Rattle.std.specs.Prelude.{◌≡◌, ◌==◌, ◌||◌, if◌then◌else◌, unwrap_or};
+ghost use Rattle.operation_defs.specs.declared.op.Op.TheVariants as ops;
 ghost use Rattle.x86_decode.specs.Operation.{
   written,
   pushed,
@@ -24,97 +25,147 @@ ghost use Rattle.x86_decode.specs.Operation.{
 use crate::action::{Action, action_at};
 use crate::fields::Fields;
 use operation_defs::Op;
+use x86_map::Write;
 
 /// What an instruction does.
-#[tactic(auto, unfolding(crate::specs::Operation::operation))]
+#[inline(never)]
 pub(crate) fn operation_of(f: &Fields) -> Op
+    ensures { result ≡ operation f.now }
+{
+    inline_operation_of(f)
+}
+
+/// The same, without a call.
+#[tactic(auto, unfolding(crate::specs::Operation::operation))]
+#[inline(always)]
+pub(crate) fn inline_operation_of(f: &Fields) -> Op
     ensures { result ≡ operation f.now }
 {
     operation_by(action_at(f.number, f.opcode), f)
 }
 
-#[tactic(auto, unfolding(crate::specs::Operation::operation_by))]
+#[inline(always)]
 fn operation_by(action: Action, f: &Fields) -> Op
     ensures { result ≡ operation_by action f.now }
 {
+    match own_operation(action, f) {
+        Some(op) => op,
+        None => written(f),
+    }
+}
+
+/// What an instruction does, where that isn't told by the registers that it writes.
+#[tactic(auto, unfolding(crate::specs::Operation::operation_by))]
+#[inline(always)]
+fn own_operation(action: Action, f: &Fields) -> Option<Op>
+    ensures { unwrap_or result (written f.now) ≡ operation_by action f.now }
+{
     match action {
-        Action::Other => written(f),
-        Action::Exchange => if f.prefixes.rex_b() {
-            written(f)
-        } else {
-            Op::Nop
-        },
-        Action::NoOperation => Op::Nop,
-        Action::Hint => if f.modrm() == 0xFA || f.modrm() == 0xFB {
-            Op::Endbr
-        } else {
-            written(f)
-        },
-        Action::PushRegister => pushed(f.opcode_register()),
-        Action::Push => Op::Push,
-        Action::PopRegister => popped(f.opcode_register()),
-        Action::PopOperand => pop_operand(f),
-        Action::Pop => Op::Pop,
-        Action::PopFlags => Op::Popf,
+        Action::Other => None,
+        Action::Exchange => (!f.prefixes.rex_b()).then_some(Op::Nop),
+        Action::NoOperation => Some(Op::Nop),
+        Action::Hint => (f.modrm() == 0xFA || f.modrm() == 0xFB).then_some(Op::Endbr),
+        Action::PushRegister => Some(pushed(f.opcode_register())),
+        Action::Push => Some(Op::Push),
+        Action::PopRegister => Some(popped(f.opcode_register())),
+        Action::PopOperand => Some(pop_operand(f)),
+        Action::Pop => Some(Op::Pop),
+        Action::PopFlags => Some(Op::Popf),
         Action::Arithmetic => arithmetic(f),
         Action::SubtractFrom => subtracted_from(f),
         Action::Subtract => subtracted_by(f),
         Action::Store => stored(f),
         Action::Load => loaded(f),
         Action::LoadAddress => address_loaded(f),
-        Action::Enter => Op::SpOther,
-        Action::Leave => Op::Leave,
-        Action::Call => Op::Call { rel: f.immediate },
-        Action::ShortJump => Op::Jmp {
+        Action::Enter => Some(Op::SpOther),
+        Action::Leave => Some(Op::Leave),
+        Action::Call => Some(Op::Call { rel: f.immediate }),
+        Action::ShortJump => Some(Op::Jmp {
             rel: f.immediate,
             wide: false,
-        },
-        Action::Jump => Op::Jmp {
+        }),
+        Action::Jump => Some(Op::Jmp {
             rel: f.immediate,
             wide: true,
-        },
-        Action::ShortCondition => Op::Jcc {
+        }),
+        Action::ShortCondition => Some(Op::Jcc {
             rel: f.immediate,
             wide: false,
-        },
-        Action::Condition => Op::Jcc {
+        }),
+        Action::Condition => Some(Op::Jcc {
             rel: f.immediate,
             wide: true,
-        },
-        Action::Return => Op::Ret,
-        Action::ReturnImmediate => Op::RetImm,
-        Action::InterruptReturn => if f.prefixes.rex_w() {
+        }),
+        Action::Return => Some(Op::Ret),
+        Action::ReturnImmediate => Some(Op::RetImm),
+        Action::InterruptReturn => Some(if f.prefixes.rex_w() {
             Op::Iret
         } else {
             Op::Switch
-        },
-        Action::Far => Op::Switch,
-        Action::Undefined => Op::Ud2,
-        Action::Breakpoint => Op::Int3,
+        }),
+        Action::Far => Some(Op::Switch),
+        Action::Undefined => Some(Op::Ud2),
+        Action::Breakpoint => Some(Op::Int3),
         Action::Group5 => group_5(f),
         Action::Group7 => group_7(f),
         Action::Group11 => group_11(f),
     }
 }
 
+#[inline(always)]
 fn written(f: &Fields) -> Op
     ensures { result ≡ written f.now }
 {
-    if f.writes(4) {
+    if f.shape.written.byte && f.prefixes.rex.is_none() {
+        return Op::Plain;
+    }
+    match f.shape.written.write {
+        Write::Nothing => Op::Plain,
+        Write::Rm if f.is_register() => register_written(f.rm_register()),
+        Write::Rm => Op::Plain,
+        Write::Reg => register_written(f.reg_register()),
+        Write::Both if f.is_register() => { either_written(f.reg_register(), f.rm_register()) }
+        Write::Both => register_written(f.reg_register()),
+        Write::Opcode => register_written(f.opcode_register()),
+        Write::Vvvv => register_written(f.prefixes.vvvv_register()),
+        Write::RegAndVvvv => { either_written(f.reg_register(), f.prefixes.vvvv_register()) }
+    }
+}
+
+/// What an instruction does that writes the register of this number.
+#[inline(always)]
+fn register_written(register: u8) -> Op
+    ensures { result ≡ (if register == 4 then ops.SpOther else (if register == 5 then ops.BpOther else ops.Plain)) }
+{
+    match register {
+        4 => Op::SpOther,
+        5 => Op::BpOther,
+        _ => Op::Plain,
+    }
+}
+
+/// What an instruction does that writes both registers of these numbers.
+#[inline(always)]
+fn either_written(one: u8, other: u8) -> Op
+    ensures { result ≡ (if (one == 4) || (other == 4) then ops.SpOther else (if (one == 5) || (other == 5) then ops.BpOther else ops.Plain)) }
+{
+    if one == 4 || other == 4 {
         Op::SpOther
-    } else if f.writes(5) {
+    } else if one == 5 || other == 5 {
         Op::BpOther
     } else {
         Op::Plain
     }
 }
 
+#[inline(always)]
 fn pushed(register: u8) -> Op
     ensures { result ≡ pushed register }
 {
     if register == 5 { Op::PushBp } else { Op::Push }
 }
 
+#[inline(always)]
 fn popped(register: u8) -> Op
     ensures { result ≡ popped register }
 {
@@ -126,6 +177,7 @@ fn popped(register: u8) -> Op
 }
 
 #[tactic(auto, unfolding(crate::specs::Operation::push_operand))]
+#[inline(always)]
 fn push_operand(f: &Fields) -> Op
     ensures { result ≡ push_operand f.now }
 {
@@ -137,6 +189,7 @@ fn push_operand(f: &Fields) -> Op
 }
 
 #[tactic(auto, unfolding(crate::specs::Operation::pop_operand))]
+#[inline(always)]
 fn pop_operand(f: &Fields) -> Op
     ensures { result ≡ pop_operand f.now }
 {
@@ -148,125 +201,130 @@ fn pop_operand(f: &Fields) -> Op
 }
 
 #[tactic(auto, unfolding(crate::specs::Operation::arithmetic))]
-fn arithmetic(f: &Fields) -> Op
-    ensures { result ≡ arithmetic f.now }
+#[inline(always)]
+fn arithmetic(f: &Fields) -> Option<Op>
+    ensures { unwrap_or result (written f.now) ≡ arithmetic f.now }
 {
     if !(f.prefixes.rex_w() && f.is_register() && f.rm_register() == 4) {
-        return written(f);
+        return None;
     }
     match f.digit() {
-        0 => Op::AddSp {
+        0 => Some(Op::AddSp {
             by: i64::from(f.immediate),
-        },
-        5 => Op::AddSp {
+        }),
+        5 => Some(Op::AddSp {
             by: -i64::from(f.immediate),
-        },
-        4 => Op::AndSp {
+        }),
+        4 => Some(Op::AndSp {
             mask: i64::from(f.immediate),
-        },
-        _ => written(f),
+        }),
+        _ => None,
     }
 }
 
-fn subtracted(to: u8, from: u8, f: &Fields) -> Op
-    ensures { result ≡ subtracted to from f.now }
+#[inline(always)]
+fn subtracted(to: u8, from: u8, f: &Fields) -> Option<Op>
+    ensures { unwrap_or result (written f.now) ≡ subtracted to from f.now }
 {
-    if to == 4 && from != 4 {
-        Op::SubSp
-    } else {
-        written(f)
-    }
+    (to == 4 && from != 4).then_some(Op::SubSp)
 }
 
 #[tactic(auto, unfolding(crate::specs::Operation::subtracted_from))]
-fn subtracted_from(f: &Fields) -> Op
-    ensures { result ≡ subtracted_from f.now }
+#[inline(always)]
+fn subtracted_from(f: &Fields) -> Option<Op>
+    ensures { unwrap_or result (written f.now) ≡ subtracted_from f.now }
 {
     if f.prefixes.rex_w() && f.is_register() {
         subtracted(f.rm_register(), f.reg_register(), f)
     } else {
-        written(f)
+        None
     }
 }
 
 #[tactic(auto, unfolding(crate::specs::Operation::subtracted_by))]
-fn subtracted_by(f: &Fields) -> Op
-    ensures { result ≡ subtracted_by f.now }
+#[inline(always)]
+fn subtracted_by(f: &Fields) -> Option<Op>
+    ensures { unwrap_or result (written f.now) ≡ subtracted_by f.now }
 {
     if f.prefixes.rex_w() && f.is_register() {
         subtracted(f.reg_register(), f.rm_register(), f)
     } else {
-        written(f)
+        None
     }
 }
 
-fn copied(to: u8, from: u8, f: &Fields) -> Op
-    ensures { result ≡ copied to from f.now }
+#[inline(always)]
+fn copied(to: u8, from: u8, f: &Fields) -> Option<Op>
+    ensures { unwrap_or result (written f.now) ≡ copied to from f.now }
 {
     match (to, from) {
-        (4, 5) => Op::LeaSpBp { by: 0 },
-        (5, 4) => Op::LeaBpSp { by: 0 },
-        (4, 4) => written(f),
-        (4, _) => Op::SpReg,
-        _ => written(f),
+        (4, 5) => Some(Op::LeaSpBp { by: 0 }),
+        (5, 4) => Some(Op::LeaBpSp { by: 0 }),
+        (4, 4) => None,
+        (4, _) => Some(Op::SpReg),
+        _ => None,
     }
 }
 
 #[tactic(auto, unfolding(crate::specs::Operation::stored))]
-fn stored(f: &Fields) -> Op
-    ensures { result ≡ stored f.now }
+#[inline(always)]
+fn stored(f: &Fields) -> Option<Op>
+    ensures { unwrap_or result (written f.now) ≡ stored f.now }
 {
     if !f.prefixes.rex_w() {
-        written(f)
+        None
     } else if f.is_register() {
         copied(f.rm_register(), f.reg_register(), f)
     } else if f.is_at_rsp() && f.reg_register() == 5 {
-        Op::StoreBp {
+        Some(Op::StoreBp {
             at: i64::from(f.displacement),
-        }
+        })
     } else {
-        written(f)
+        None
     }
 }
 
 #[tactic(auto, unfolding(crate::specs::Operation::loaded))]
-fn loaded(f: &Fields) -> Op
-    ensures { result ≡ loaded f.now }
+#[inline(always)]
+fn loaded(f: &Fields) -> Option<Op>
+    ensures { unwrap_or result (written f.now) ≡ loaded f.now }
 {
     if !f.prefixes.rex_w() {
-        written(f)
+        None
     } else if f.is_register() {
         copied(f.reg_register(), f.rm_register(), f)
     } else if f.is_at_rsp() && f.reg_register() == 5 {
-        Op::LoadBp {
+        Some(Op::LoadBp {
             at: i64::from(f.displacement),
-        }
+        })
     } else {
-        written(f)
+        None
     }
 }
 
 #[tactic(auto, unfolding(crate::specs::Operation::address_loaded))]
-fn address_loaded(f: &Fields) -> Op
-    ensures { result ≡ address_loaded f.now }
+#[inline(always)]
+fn address_loaded(f: &Fields) -> Option<Op>
+    ensures { unwrap_or result (written f.now) ≡ address_loaded f.now }
 {
     if !f.prefixes.rex_w() {
-        return written(f);
+        return None;
     }
     let by = i64::from(f.displacement);
     let register = f.reg_register();
     if register == 4 && f.is_at_rsp() {
-        Op::AddSp { by }
+        Some(Op::AddSp { by })
     } else if register == 4 && f.is_at_rbp() {
-        Op::LeaSpBp { by }
+        Some(Op::LeaSpBp { by })
     } else if register == 5 && f.is_at_rsp() {
-        Op::LeaBpSp { by }
+        Some(Op::LeaBpSp { by })
     } else {
-        written(f)
+        None
     }
 }
 
 #[tactic(auto, unfolding(crate::specs::Operation::jump_table))]
+#[inline(always)]
 fn jump_table(f: &Fields) -> Option<u8>
     ensures { result ≡ jump_table f.now }
 {
@@ -274,41 +332,44 @@ fn jump_table(f: &Fields) -> Option<u8>
 }
 
 #[tactic(auto, unfolding(crate::specs::Operation::group_5))]
-fn group_5(f: &Fields) -> Op
-    ensures { result ≡ group_5 f.now }
+#[inline(always)]
+fn group_5(f: &Fields) -> Option<Op>
+    ensures { unwrap_or result (written f.now) ≡ group_5 f.now }
 {
     match f.digit() {
-        2 => Op::CallInd,
-        3 | 5 => Op::Switch,
-        4 => Op::JmpInd {
+        2 => Some(Op::CallInd),
+        3 | 5 => Some(Op::Switch),
+        4 => Some(Op::JmpInd {
             table: jump_table(f),
-        },
-        6 => push_operand(f),
-        _ => written(f),
+        }),
+        6 => Some(push_operand(f)),
+        _ => None,
     }
 }
 
 #[tactic(auto, unfolding(crate::specs::Operation::group_7))]
-fn group_7(f: &Fields) -> Op
-    ensures { result ≡ group_7 f.now }
+#[inline(always)]
+fn group_7(f: &Fields) -> Option<Op>
+    ensures { unwrap_or result (written f.now) ≡ group_7 f.now }
 {
     match f.modrm() {
-        0xCB => Op::Stac,
-        0xCA => Op::Clac,
-        _ => written(f),
+        0xCB => Some(Op::Stac),
+        0xCA => Some(Op::Clac),
+        _ => None,
     }
 }
 
 /// XBEGIN goes on behind itself, or at its fallback address with rsp, rbp and memory as they are right behind itself.
 #[tactic(auto, unfolding(crate::specs::Operation::group_11))]
-fn group_11(f: &Fields) -> Op
-    ensures { result ≡ group_11 f.now }
+#[inline(always)]
+fn group_11(f: &Fields) -> Option<Op>
+    ensures { unwrap_or result (written f.now) ≡ group_11 f.now }
 {
     match f.modrm() {
-        0xF8 => Op::Jcc {
+        0xF8 => Some(Op::Jcc {
             rel: f.immediate,
             wide: true,
-        },
-        _ => written(f),
+        }),
+        _ => None,
     }
 }

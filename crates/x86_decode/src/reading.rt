@@ -2,7 +2,7 @@
 
 ghost use Rattle.std.specs.Prelude.{◌≡◌, ◌+◌, ◌≤◌, ◌<◌, ℕ, true, length, Some, None};
 ghost use Rattle.x86_map.specs.Vector.{vex_number, evex_number, is_evex_second, number_of};
-ghost use Rattle.x86_decode.specs.Spelling.{optional, has_sib, has_base_5, displacement_len};
+ghost use Rattle.x86_decode.specs.Spelling.{optional, has_sib, has_base_5, displacement_len, fields_of};
 ghost use Rattle.x86_decode.specs.Reading.{
   finished,
   rest_at,
@@ -358,23 +358,53 @@ fn finished(
         + length displacement.now + length immediate.now ≤ 15 }
     ensures { result ≡ finished opcode.now.prefixes opcode.now.number opcode.now.byte modrm sib shape opcode.now.end displacement.now immediate.now }
 {
-    let displacement_at = opcode.end + count(modrm) + count(sib);
-    let op = operation_of(&Fields {
-        prefixes: opcode.prefixes,
-        number: opcode.number,
-        opcode: opcode.byte,
+    let f = fields_of(
+        &opcode.prefixes,
+        opcode.number,
+        opcode.byte,
+        opcode.end,
+        modrm,
+        sib,
+        shape,
+        displacement,
+        immediate,
+    );
+    Insn {
+        len: f.displacement_at + displacement.len() as u8 + immediate.len() as u8,
+        op: operation_of(&f),
+    }
+}
+
+/// The fields of an instruction whose prefixes and opcode have so many bytes.
+#[inline(always)]
+pub(crate) fn fields_of(
+    p: &Prefixes,
+    number: u8,
+    opcode: u8,
+    end: u8,
+    modrm: Option<u8>,
+    sib: Option<u8>,
+    shape: Shape,
+    displacement: &[u8],
+    immediate: &[u8],
+) -> Fields
+    requires { end + length (optional modrm) + length (optional sib) ≤ 15 }
+    ensures { result ≡ fields_of p.now number opcode end (record { modrm = modrm; sib = sib; displacement = displacement.now; immediate = immediate.now }) shape }
+{
+    Fields {
+        prefixes: *p,
+        number,
+        opcode,
         modrm,
         sib,
         shape,
         displacement: signed_number(displacement),
-        displacement_at,
+        displacement_at: end + count(modrm) + count(sib),
         immediate: signed_number(immediate),
-    });
-    let len = displacement_at + displacement.len() as u8 + immediate.len() as u8;
-    Insn { len, op }
+    }
 }
 
-fn count(byte: Option<u8>) -> u8
+pub(crate) fn count(byte: Option<u8>) -> u8
     ensures { result ≡ length (optional byte) }
 {
     match byte {
@@ -384,14 +414,14 @@ fn count(byte: Option<u8>) -> u8
 }
 
 /// Whether a SIB byte follows.
-fn has_sib(modrm: u8) -> bool
+pub(crate) fn has_sib(modrm: u8) -> bool
     ensures { result ≡ has_sib (Some modrm) }
 {
     modrm / 64 < 3 && modrm % 8 == 4
 }
 
 /// How many bytes the displacement has.
-fn displacement_len(modrm: Option<u8>, sib: Option<u8>) -> usize
+pub(crate) fn displacement_len(modrm: Option<u8>, sib: Option<u8>) -> usize
     ensures value { result ≡ displacement_len modrm sib }
     ensures short { result ≤ 4 }
 {
