@@ -9,7 +9,7 @@ use Rattle.return_search.specs.declared.searched_flow.Flow.{Flow}
 use Rattle.return_search.specs.declared.backward.Backward.{Backward}
 use Rattle.return_search.specs.declared.backward.Lead.{Lead}
 use Rattle.return_search.specs.declared.backward.Lead.TheVariants as lead
-use Rattle.return_search.specs.Chained.{AreChains}
+use Rattle.return_search.specs.Chained.{AreChains, IsOpen}
 use Rattle.return_search.specs.Told.{exit_at, start_of}
 use Rattle.return_search.specs.Shape.{points_of}
 
@@ -47,11 +47,19 @@ pub record AreLeads (flow : Flow) (leads : List Lead) (n m : ℕ) : Type 0 where
   pub edges : (q i : ℕ) → i < m → IsEdgeOf flow q i → ((edge_at flow i).to ≡ q + 1) ⊎ Contains leads (lead.Edge q i)
   pub calls : (q entry : ℕ) → q < n → exit_at flow q ≡ Calls entry → Contains leads (lead.Call q)
 
--- So many calls and edges of the flow are backwards.
+-- The point passes, and has a single edge, which leads to the point right behind it: any return is carried over it.
+pub record StepsOn (flow : Flow) (q : ℕ) : Type 0 where
+  pub point : q < points_of flow
+  pub passes : exit_at flow q ≡ Passes
+  pub one : start_of flow (q + 1) ≡ start_of flow q + 1
+  pub behind : (edge_at flow (start_of flow q)).to ≡ q + 1
+
+-- So many calls and edges of the flow are backwards. Of those points that many step on to whose keys are open.
 pub record IsBackwardTo (flow : Flow) (backward : Backward) (n m : ℕ) : Type 0 where
   pub leads : AreLeads flow backward.leads.items n m
   pub chains : AreChains backward.chains.heads.items backward.chains.links.items (map (key_of flow) backward.leads.items)
   pub heads : length backward.chains.heads.items ≡ points_of flow
+  pub steps : (q : ℕ) → q < n → IsOpen backward.chains.heads.items (q + 1) → StepsOn flow q
 
 -- All are.
 abbrev pub IsBackward : Flow → Backward → Type 0

@@ -1,11 +1,11 @@
 //! Over which edges a return is carried back, as far as a search knows.
 
-ghost use Rattle.std.specs.Prelude.{◌≡◌, ◌+◌, ◌<◌, ◌&&◌, ℕ, true, false, IsTrue, length, slice_index, slice_index_or, slice_set};
+ghost use Rattle.std.specs.Prelude.{◌≡◌, ◌+◌, ◌<◌, ◌≤◌, ◌&&◌, ℕ, true, false, IsTrue, length, slice_index, slice_index_or, slice_set};
 ghost use Rattle.machine_defs.specs.declared.flow.EdgeKind.TheVariants.{Next};
-ghost use Rattle.return_search.specs.Told.{dead_end_at, exit_at};
+ghost use Rattle.return_search.specs.Told.{dead_end_at, exit_at, start_of};
 ghost use Rattle.return_search.specs.Shape.{HasShape, points_of};
-ghost use Rattle.return_search.specs.Backward.{IsEdgeOf, edge_at};
-ghost use Rattle.return_search.specs.Search.{AreListed, IsNewlyCarried, StepsOn, carries as carries_back, is_set, target_returns as does_target_return, is_calling};
+ghost use Rattle.return_search.specs.Backward.{IsEdgeOf, StepsOn, edge_at};
+ghost use Rattle.return_search.specs.Search.{AreListed, carries as carries_back, is_set, target_returns as does_target_return, is_calling};
 
 use crate::return_search::Search;
 use crate::searched_flow::{Exit, Flow};
@@ -80,39 +80,39 @@ pub(crate) fn is_carried_to(flow: &Flow, search: &Search, q: u32) -> bool
     false
 }
 
-/// Whether a point has first of all a Next to the point right behind it, over which any return is carried to it. Most have.
-fn steps_on(flow: &Flow, q: u32) -> bool
+/// Whether a point passes and has a single edge, its first, which leads to the point right behind it. Most have.
+fn steps_on(flow: &Flow, q: u32, first: usize) -> bool
     requires shape { HasShape flow.now }
     requires point { q < points_of flow.now }
+    requires first { first ≡ start_of flow.now q }
     ensures { IsTrue result → StepsOn flow.now q }
 {
-    let first = flow.start(q as usize);
-    if first == flow.start(q as usize + 1) {
+    if flow.start(q as usize + 1) != first + 1 {
         return false;
     }
     let behind = q + 1;
     if flow.edges[first].to != behind {
         return false;
     }
-    if !matches!(flow.edges[first].kind, EdgeKind::Next) {
-        return false;
-    }
     matches!(flow.exits[q as usize], Exit::Passes)
 }
 
-/// Whether a return is carried to a point that isn't found yet, where the one right behind it is.
-pub(crate) fn is_newly_carried(flow: &Flow, search: &Search, q: u32) -> bool
+/// The first point from one on that doesn't just step on, or the end of the points.
+// Apart, so that its loop keeps all that it needs in registers.
+#[inline(never)]
+pub(crate) fn end_of_steps(flow: &Flow, from: u32) -> u32
     requires shape { HasShape flow.now }
-    requires listed { AreListed flow.now search.now }
-    requires point { q < points_of flow.now }
-    requires behind { is_set search.now.found.items (q + 1) ≡ true }
-    ensures { IsTrue result → IsNewlyCarried flow.now search.now q }
+    requires from { from ≤ points_of flow.now }
+    ensures from { from ≤ result }
+    ensures within { result ≤ points_of flow.now }
+    ensures steps { (q : ℕ) → from ≤ q → q < result → StepsOn flow.now q }
 {
-    if search.found[q as usize] {
-        return false;
+    let points = flow.exits.len() as u32;
+    let mut q = from;
+    let mut first = flow.start(q as usize);
+    'steps: while q < points && steps_on(flow, q, first) {
+        q += 1;
+        first += 1;
     }
-    if steps_on(flow, q) {
-        return true;
-    }
-    is_carried_to(flow, search, q)
+    q
 }
