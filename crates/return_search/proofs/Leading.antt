@@ -11,7 +11,7 @@ use Rattle.return_search.specs.declared.return_search.Search.{Search}
 use Rattle.return_search.specs.Chained.{AreChains, IsOpen, OpensNone}
 use Rattle.return_search.specs.Told.{exit_at, start_of}
 use Rattle.return_search.specs.Shape.{HasShape, points_of}
-use Rattle.return_search.specs.Backward.{AreLeads, IsBackwardTo, IsEdgeOf, IsLead, StepsOn, edge_at, key_of}
+use Rattle.return_search.specs.Backward.{AreLeads, IsBackwardTo, IsEdgeOf, IsLead, IsPlain, StepsOn, edge_at, key_of}
 use Rattle.return_search.specs.Search.{IsLeavingTo}
 use Rattle.return_search.proofs.Passing.{leaving_next}
 use Rattle.return_search.proofs.Ranges.{starts_ascend}
@@ -79,8 +79,17 @@ module _ (flow : Flow) (leads : List Lead) (n m : ℕ) (are : AreLeads flow lead
       calls = are.calls;
     }
 
--- points that just step on are listed with nothing
-module _ (flow : Flow) (shape : HasShape flow) (n e : ℕ) (ordered : n ≤ e) (within : e ≤ points_of flow) (steps : (q : ℕ) → n ≤ q → q < e → StepsOn flow q) where
+-- a plain point steps on
+plain_steps : (flow : Flow) (q : ℕ) → IsPlain flow q → StepsOn flow q
+plain_steps flow q plain = record {
+  edge = start_of flow q;
+  of = record { point = plain.point; from = omega arith; to = omega (arith, plain.one) };
+  behind = plain.behind;
+  passes = inl plain.passes;
+}
+
+-- nothing is listed for plain points
+module _ (flow : Flow) (shape : HasShape flow) (n e : ℕ) (ordered : n ≤ e) (within : e ≤ points_of flow) (plain : (q : ℕ) → n ≤ q → q < e → IsPlain flow q) where
   split_at : (j k : ℕ) → (j < k) ⊎ (k ≤ j)
   split_at j k = grind arith
 
@@ -90,37 +99,37 @@ module _ (flow : Flow) (shape : HasShape flow) (n e : ℕ) (ordered : n ≤ e) (
     | inl before ↦ inl (let h = starts_ascend flow shape (q + 1) n (omega arith) (omega arith) in omega (arith, h, of.to))
     | inr from ↦ elim (split_at q e) [
       | inl below ↦
-          let step : StepsOn flow q = steps q from below in
+          let step : IsPlain flow q = plain q from below in
           let first : i ≡ start_of flow q = omega (arith, step.one, of.from, of.to) in
           inr (subst (λ (k : ℕ). (edge_at flow k).to ≡ q + 1) (sym first) step.behind)
       | inr past ↦ absurd (let h = starts_ascend flow shape e q past (omega (arith, of.point)) in omega (arith, h, l, of.from))
     ]
   ]
 
-  pub leads_steps : (leads : List Lead) → AreLeads flow leads n (start_of flow n) → AreLeads flow leads e (start_of flow e)
-  leads_steps leads are = record {
+  pub leads_plain : (leads : List Lead) → AreLeads flow leads n (start_of flow n) → AreLeads flow leads e (start_of flow e)
+  leads_plain leads are = record {
     own = are.own;
     edges = λ q i l of. elim (edge_behind q i l of) [ inl before ↦ are.edges q i before of | inr behind ↦ inl behind ];
     calls = λ q entry l is. elim (split_at q n) [
       | inl before ↦ are.calls q entry before is
-      | inr from ↦ absurd (let passes : exit_at flow q ≡ Passes = (steps q from l).passes in let z : ⊥ = cc in z)
+      | inr from ↦ absurd (let passes : exit_at flow q ≡ Passes = (plain q from l).passes in let z : ⊥ = cc in z)
     ];
   }
 
-  pub backward_steps : (backward : Backward) → IsBackwardTo flow backward n (start_of flow n) → IsBackwardTo flow backward e (start_of flow e)
-  backward_steps backward are = record {
-    leads = leads_steps backward.leads.items are.leads;
+  pub backward_plain : (backward : Backward) → IsBackwardTo flow backward n (start_of flow n) → IsBackwardTo flow backward e (start_of flow e)
+  backward_plain backward are = record {
+    leads = leads_plain backward.leads.items are.leads;
     chains = are.chains;
     heads = are.heads;
-    steps = λ q l is. elim (split_at q n) [ inl before ↦ are.steps q before is | inr from ↦ steps q from l ];
+    steps = λ q l is. elim (split_at q n) [ inl before ↦ are.steps q before is | inr from ↦ plain_steps flow q (plain q from l) ];
   }
 
-  pub leaving_steps : (s : Search) → IsLeavingTo flow s n → IsLeavingTo flow s e
-  leaving_steps s are = record {
+  pub leaving_plain : (s : Search) → IsLeavingTo flow s n → IsLeavingTo flow s e
+  leaving_plain s are = record {
     search = are.search;
     leaving = λ q l is. elim (split_at q n) [
       | inl before ↦ are.leaving q before is
-      | inr from ↦ absurd (let passes : exit_at flow q ≡ Passes = (steps q from l).passes in let z : ⊥ = cc in z)
+      | inr from ↦ absurd (let passes : exit_at flow q ≡ Passes = (plain q from l).passes in let z : ⊥ = cc in z)
     ];
   }
 
@@ -128,11 +137,11 @@ module _ (flow : Flow) (shape : HasShape flow) (n e : ℕ) (ordered : n ≤ e) (
 pub open_still : (flow : Flow) (before after : List ℕ) (n : ℕ) → OpensNone before after → ((q : ℕ) → q < n → IsOpen before (q + 1) → StepsOn flow q) → (q : ℕ) → q < n → IsOpen after (q + 1) → StepsOn flow q
 open_still flow before after n none steps q l is = steps q l (none (q + 1) is)
 
--- and one point more, which is closed
-pub open_next : (flow : Flow) (heads : List ℕ) (n : ℕ) → ((q : ℕ) → q < n → IsOpen heads (q + 1) → StepsOn flow q) → (IsOpen heads (n + 1) → ⊥) → (q : ℕ) → q < n + 1 → IsOpen heads (q + 1) → StepsOn flow q
-open_next flow heads n steps closed q l is = elim (split_last q n l) [
+-- and one point more
+pub open_next : (flow : Flow) (heads : List ℕ) (n : ℕ) → ((q : ℕ) → q < n → IsOpen heads (q + 1) → StepsOn flow q) → (IsOpen heads (n + 1) → StepsOn flow n) → (q : ℕ) → q < n + 1 → IsOpen heads (q + 1) → StepsOn flow q
+open_next flow heads n steps next q l is = elim (split_last q n l) [
   | inl less ↦ steps q less is
-  | inr same ↦ absurd (closed (subst (λ (k : ℕ). IsOpen heads (k + 1)) same is))
+  | inr same ↦ subst (StepsOn flow) (sym same) (next (subst (λ (k : ℕ). IsOpen heads (k + 1)) same is))
 ]
 
 -- a point from which no return comes

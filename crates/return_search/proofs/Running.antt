@@ -14,9 +14,9 @@ use Rattle.return_search.specs.declared.searched_flow.Exit.TheVariants.{Calls, P
 use Rattle.return_search.specs.declared.searched_flow.Flow.{Flow}
 use Rattle.return_search.specs.declared.return_search.Search.{Search}
 use Rattle.return_search.specs.Chained.{IsLastBelow, IsOpen}
-use Rattle.return_search.specs.Told.{callee_at, dead_end_at, entered_at, exit_at, start_of}
+use Rattle.return_search.specs.Told.{callee_at, dead_end_at, entered_at, exit_at}
 use Rattle.return_search.specs.Shape.{HasShape, points_of}
-use Rattle.return_search.specs.Backward.{IsBackward, StepsOn, edge_at, key_of}
+use Rattle.return_search.specs.Backward.{IsBackward, PassesOn, StepsOn, edge_at, key_of}
 use Rattle.return_search.specs.Search.{is_set, carries, is_calling, target_returns, AreSound, IsCarriedBy, IsPassedOn, IsSteppedTo, IsTaken, RunsOn}
 use Rattle.return_search.proofs.Chaining.{last_open}
 use Rattle.return_search.proofs.Least.{carried_sound}
@@ -56,13 +56,17 @@ module _ (flow : Flow) (shape : HasShape flow) (backward : Backward) (back : IsB
     steps = λ q before. back.steps q (omega (arith, before, inside)) (subst (IsOpen backward.chains.heads.items) (sym before) is_open);
   }
 
--- any return is carried over the edge of a point that passes
-carries_passing : (flow : Flow) (known : List Bool) (q : ℕ) (k : EdgeKind) → exit_at flow q ≡ Passes → carries flow known q k ≡ true
-carries_passing flow known q Next is = ap (λ (x : Exit). target_returns known x && not (is_calling x && dead_end_at flow q)) is
-carries_passing flow known q Taken is = refl
-carries_passing flow known q Fixup is = refl
-carries_passing flow known q Table is = refl
-carries_passing flow known q Sibling is = refl
+-- any return is carried over the edges of a point that passes on
+next_carries : (flow : Flow) (known : List Bool) (q : ℕ) → PassesOn flow q → target_returns known (exit_at flow q) && not (is_calling (exit_at flow q) && dead_end_at flow q) ≡ true
+next_carries flow known q (inl is) = ap (λ (x : Exit). target_returns known x && not (is_calling x && dead_end_at flow q)) is
+next_carries flow known q (inr (is, alive)) = ap (λ (x : Exit). target_returns known x && not (is_calling x && dead_end_at flow q)) is ∙ ap not alive
+
+carries_passing : (flow : Flow) (known : List Bool) (q : ℕ) (k : EdgeKind) → PassesOn flow q → carries flow known q k ≡ true
+carries_passing flow known q Next passes = next_carries flow known q passes
+carries_passing flow known q Taken passes = refl
+carries_passing flow known q Fixup passes = refl
+carries_passing flow known q Table passes = refl
+carries_passing flow known q Sibling passes = refl
 
 count_bit : (b : Bool) → cond b 1 0 ≤ 1
 count_bit true = omega arith
@@ -73,15 +77,11 @@ module _ (flow : Flow) (shape : HasShape flow) (s t : Search) (x q : ℕ) (befor
   step : StepsOn flow q
   step = led.steps q before
 
-  by : IsCarriedBy flow s.found.items s.known.items q (start_of flow q)
-  by = (
-    record { point = step.point; from = omega arith; to = omega (arith, step.one) },
-    subst (λ (k : ℕ). is_set s.found.items k ≡ true) (sym (step.behind ∙ before)) taken.found,
-    carries_passing flow s.known.items q (edge_at flow (start_of flow q)).kind step.passes,
-  )
+  by : IsCarriedBy flow s.found.items s.known.items q step.edge
+  by = (step.of, subst (λ (k : ℕ). is_set s.found.items k ≡ true) (sym (step.behind ∙ before)) taken.found, carries_passing flow s.known.items q (edge_at flow step.edge).kind step.passes)
 
   inside : q < length s.found.items
-  inside = omega (arith, step.point, taken.listed.long)
+  inside = omega (arith, step.of.point, taken.listed.long)
 
   still : (y : ℕ) → is_set s.found.items y ≡ true → is_set t.found.items y ≡ true
   still y h = subst (λ (fs : List Bool). is_set fs y ≡ true) (sym found) (holds_still s.found.items q y inside h)
@@ -103,7 +103,7 @@ module _ (flow : Flow) (shape : HasShape flow) (s t : Search) (x q : ℕ) (befor
   }
 
   sound_now : AreSound flow (set s.found.items q true) s.known.items
-  sound_now = sound_find flow s.found.items s.known.items q taken.sound (λ p tells. carried_sound p flow tells shape s.found.items s.known.items taken.sound q (start_of flow q) by.0 by.2 (taken.sound.points p tells (edge_at flow (start_of flow q)).to by.1))
+  sound_now = sound_find flow s.found.items s.known.items q taken.sound (λ p tells. carried_sound p flow tells shape s.found.items s.known.items taken.sound q step.edge by.0 by.2 (taken.sound.points p tells (edge_at flow step.edge).to by.1))
 
   pub run_on : t.waiting.items ≡ s.waiting.items → RunsOn s t
   run_on waiting = record { found = still; waiting = waiting; more = omega (arith, counted) }

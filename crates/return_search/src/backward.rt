@@ -5,10 +5,10 @@ ghost use Rattle.return_search.specs.Chained.{AreChains, IsOpen, OpensNone};
 ghost use Rattle.return_search.specs.declared.searched_flow.Exit.TheVariants.{Leaves};
 ghost use Rattle.return_search.specs.Shape.{HasShape, points_of};
 ghost use Rattle.return_search.specs.Told.{exit_at, start_of};
-ghost use Rattle.return_search.specs.Backward.{IsBackward, IsBackwardTo, IsEdgeOf};
+ghost use Rattle.return_search.specs.Backward.{IsBackward, IsBackwardTo, IsEdgeOf, StepsOn};
 ghost use Rattle.return_search.specs.Search.{IsLeavingTo};
 
-use crate::carrying::end_of_steps;
+use crate::carrying::{end_of_plain, steps_on};
 use crate::chains::Chains;
 use crate::return_search::Search;
 use crate::searched_flow::{Exit, Flow};
@@ -29,8 +29,8 @@ pub(crate) enum Lead {
 pub(crate) struct Backward {
     /// All that leads somewhere.
     pub(crate) leads: Vec<Lead>,
-    /// The numbers of what leads to a point. A point stays open if nothing does but the point right before it, which just
-    /// steps on to it; so does the first point, to which nothing leads.
+    /// The numbers of what leads to a point. A point stays open if nothing is listed that leads there, and the point right
+    /// before it, if there is one, steps on to it.
     pub(crate) chains: Chains,
 }
 
@@ -70,14 +70,17 @@ impl Backward {
         Ok(())
     }
 
-    /// Closes the point right behind a point that doesn't just step on to it.
+    /// Closes the point right behind a point, unless that steps on to it.
     fn close_behind(&mut self, flow: &Flow, q: u32)
         requires shape { HasShape flow.now }
         requires point { q < points_of flow.now }
         requires so_far { IsBackwardTo flow.now self.old q (start_of flow.now q) }
         ensures so_far { IsBackwardTo flow.now self.new q (start_of flow.now q) }
-        ensures closed { IsOpen self.new.chains.heads.items (q + 1) → ⊥ }
+        ensures steps { IsOpen self.new.chains.heads.items (q + 1) → StepsOn flow.now q }
     {
+        if steps_on(flow, q) {
+            return;
+        }
         let behind = q + 1;
         if (behind as usize) < flow.exits.len() {
             self.chains.close(behind);
@@ -89,7 +92,7 @@ impl Backward {
         requires shape { HasShape flow.now }
         requires point { q < points_of flow.now }
         requires so_far { IsBackwardTo flow.now self.old q (start_of flow.now q) }
-        requires closed { IsOpen self.old.chains.heads.items (q + 1) → ⊥ }
+        requires steps { IsOpen self.old.chains.heads.items (q + 1) → StepsOn flow.now q }
         requires search { IsLeavingTo flow.now search.old q }
         ensures one_more { OnOk result (IsBackwardTo flow.now self.new (q + 1) (start_of flow.now q)) }
         ensures search { OnOk result (IsLeavingTo flow.now search.new (q + 1)) }
@@ -118,7 +121,7 @@ impl Backward {
         Ok(())
     }
 
-    /// Lists all of a point that doesn't just step on.
+    /// Lists all of a point that isn't plain.
     fn add_point(&mut self, flow: &Flow, search: &mut Search, q: u32) -> Result<(), NoMemory>
         requires shape { HasShape flow.now }
         requires point { q < points_of flow.now }
@@ -143,10 +146,10 @@ impl Backward {
         ensures search { OnOk result (IsLeavingTo flow.now search.new (points_of flow.now)) }
     {
         let mut backward = Backward::empty(alloc, flow)?;
-        let mut at = end_of_steps(flow, 0);
+        let mut at = end_of_plain(flow, 0);
         'points: while (at as usize) < flow.exits.len() {
             backward.add_point(flow, search, at)?;
-            at = end_of_steps(flow, at + 1);
+            at = end_of_plain(flow, at + 1);
         }
         Ok(backward)
     }

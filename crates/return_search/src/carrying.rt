@@ -2,14 +2,14 @@
 
 ghost use Rattle.std.specs.Prelude.{◌≡◌, ◌+◌, ◌<◌, ◌≤◌, ◌&&◌, ℕ, true, false, IsTrue, length, slice_index, slice_index_or, slice_set};
 ghost use Rattle.machine_defs.specs.declared.flow.EdgeKind.TheVariants.{Next};
-ghost use Rattle.return_search.specs.Told.{dead_end_at, exit_at, start_of};
+ghost use Rattle.return_search.specs.Told.{dead_end_at, exit_at};
 ghost use Rattle.return_search.specs.Shape.{HasShape, points_of};
-ghost use Rattle.return_search.specs.Backward.{IsEdgeOf, StepsOn, edge_at};
+ghost use Rattle.return_search.specs.Backward.{IsEdgeOf, IsPlain, PassesOn, StepsOn, edge_at};
 ghost use Rattle.return_search.specs.Search.{AreListed, carries as carries_back, is_set, target_returns as does_target_return, is_calling};
 
 use crate::return_search::Search;
 use crate::searched_flow::{Exit, Flow};
-use machine_defs::EdgeKind;
+use machine_defs::{Edge, EdgeKind};
 
 /// Whether the target of a point's call returns, as far as it is known. What isn't a call passes.
 pub(crate) fn target_returns(flow: &Flow, known: &[bool], q: u32) -> bool
@@ -80,39 +80,59 @@ pub(crate) fn is_carried_to(flow: &Flow, search: &Search, q: u32) -> bool
     false
 }
 
-/// Whether a point passes and has a single edge, its first, which leads to the point right behind it. Most have.
-fn steps_on(flow: &Flow, q: u32, first: usize) -> bool
+/// Whether a point passes, or is a call of code outside that execution passes.
+fn passes_on(flow: &Flow, q: u32) -> bool
     requires shape { HasShape flow.now }
     requires point { q < points_of flow.now }
-    requires first { first ≡ start_of flow.now q }
+    ensures { IsTrue result → PassesOn flow.now q }
+{
+    match flow.exits[q as usize] {
+        Exit::Passes => true,
+        Exit::CallsOut => !flow.dead_ends[q as usize],
+        Exit::Leaves | Exit::Calls { .. } | Exit::CallsNever => false,
+    }
+}
+
+/// Whether a point's first edge leads to the point right behind it, and any return is carried over it.
+pub(crate) fn steps_on(flow: &Flow, q: u32) -> bool
+    requires shape { HasShape flow.now }
+    requires point { q < points_of flow.now }
     ensures { IsTrue result → StepsOn flow.now q }
 {
-    if flow.start(q as usize + 1) != first + 1 {
+    let first = flow.start(q as usize);
+    if first == flow.start(q as usize + 1) {
         return false;
     }
     let behind = q + 1;
     if flow.edges[first].to != behind {
         return false;
     }
-    matches!(flow.exits[q as usize], Exit::Passes)
+    passes_on(flow, q)
 }
 
-/// The first point from one on that doesn't just step on, or the end of the points.
-// Apart, so that its loop keeps all that it needs in registers.
+/// The first point from one on that isn't plain, or the end of the points. A plain point passes, and has a single edge, which
+/// leads to the point right behind it. Most are such.
+// The parts of the flow are read once, and the loop keeps them in registers.
 #[inline(never)]
-pub(crate) fn end_of_steps(flow: &Flow, from: u32) -> u32
+pub(crate) fn end_of_plain(flow: &Flow, from: u32) -> u32
     requires shape { HasShape flow.now }
     requires from { from ≤ points_of flow.now }
     ensures from { from ≤ result }
     ensures within { result ≤ points_of flow.now }
-    ensures steps { (q : ℕ) → from ≤ q → q < result → StepsOn flow.now q }
+    ensures plain { (q : ℕ) → from ≤ q → q < result → IsPlain flow.now q }
 {
-    let points = flow.exits.len() as u32;
-    let mut q = from;
-    let mut first = flow.start(q as usize);
-    'steps: while q < points && steps_on(flow, q, first) {
+    let starts: &[u32] = &flow.starts;
+    let edges: &[Edge] = &flow.edges;
+    let exits: &[Exit] = &flow.exits;
+    let mut q = from as usize;
+    let mut first = starts[q] as usize;
+    'plain: while q < exits.len()
+        && starts[q + 1] as usize == first + 1
+        && edges[first].to as usize == q + 1
+        && matches!(exits[q], Exit::Passes)
+    {
         q += 1;
         first += 1;
     }
-    q
+    q as u32
 }

@@ -62,12 +62,11 @@ impl Chains {
         }
     }
 
-    /// Whether a key is open.
-    pub(crate) fn is_open(&self, key: u32) -> bool
-        requires { key < length self.now.heads.items }
-        ensures { IsTrue result → IsOpen self.now.heads.items key }
+    /// The heads of the keys.
+    pub(crate) fn heads(&self) -> &[u32]
+        ensures { result.now ≡ self.now.heads.items }
     {
-        self.heads[key as usize] == OPEN
+        &self.heads
     }
 
     /// The last number that has a key.
@@ -87,4 +86,12 @@ impl Chains {
         let link = self.links[n as usize];
         if link < n { Some(link) } else { None }
     }
+}
+
+/// Whether a key is open, by the heads of the keys.
+pub(crate) fn is_open(heads: &[u32], key: usize) -> bool
+    requires { key < length heads.now }
+    ensures { IsTrue result → IsOpen heads.now key }
+{
+    heads[key] == OPEN
 }

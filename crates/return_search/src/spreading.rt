@@ -1,15 +1,17 @@
 //! How returns are carried backwards over the edges of a program.
 
-ghost use Rattle.std.specs.Prelude.{◌≡◌, ◌+◌, ◌<◌, ℕ, true, false, IfOk, Contains, IsTrue, slice_index, slice_index_or, slice_set};
+ghost use Rattle.std.specs.Prelude.{◌≡◌, ◌+◌, ◌<◌, ℕ, None, true, false, IfOk, Contains, IsTrue, length, slice_index, slice_index_or, slice_set};
 ghost use Rattle.return_search.specs.declared.searched_flow.Exit.TheVariants.{Calls, Leaves};
+ghost use Rattle.return_search.specs.Chained.{IsOpen};
 ghost use Rattle.return_search.specs.Told.{exit_at};
 ghost use Rattle.return_search.specs.Shape.{HasShape, points_of};
 ghost use Rattle.return_search.specs.declared.backward.Lead.TheVariants.{Call, Edge};
 ghost use Rattle.return_search.specs.Backward.{IsBackward, IsEdgeOf, IsLead, edge_at};
-ghost use Rattle.return_search.specs.Search.{AreClosed, AreListed, AreSound, Extends, FindsAlong, FindsMore, IsCarriedBy, IsSearch, IsSteppedTo, IsTaken, RunsOn, carries as carries_back, is_set};
+ghost use Rattle.return_search.specs.Search.{AreClosed, AreListed, AreSound, Extends, FindsAlong, FindsMore, IsCarriedBy, IsSearch, IsTaken, RunsOn, carries as carries_back, is_set};
 
 use crate::backward::{Backward, Lead};
 use crate::carrying::{carries, is_carried_to};
+use crate::chains::is_open;
 use crate::return_search::Search;
 use crate::searched_flow::Flow;
 use ot_base::NoMemory;
@@ -161,23 +163,21 @@ fn pass_on(flow: &Flow, backward: &Backward, search: &mut Search, x: u32)
     }
 }
 
-/// Whether nothing leads to a point but the point right before it, which just steps on to it, and no call names it.
-fn is_stepped_to(flow: &Flow, backward: &Backward, x: u32) -> bool
-    requires shape { HasShape flow.now }
-    requires backward { IsBackward flow.now backward.now }
-    requires point { x < points_of flow.now }
-    ensures { IsTrue result → IsSteppedTo flow.now x }
+/// Whether nothing leads to a point but the point right before it, which steps on to it, and no call names it: control comes to
+/// it at no entry, and it is open.
+fn is_stepped_to(entered: &[Option<u32>], heads: &[u32], x: usize) -> bool
+    requires entered { x < length entered.now }
+    requires heads { x < length heads.now }
+    ensures entered { IsTrue result → slice_index_or entered.now x None ≡ None }
+    ensures opened { IsTrue result → IsOpen heads.now x }
 {
-    if flow.entered[x as usize].is_some() {
-        return false;
-    }
-    backward.chains.is_open(x)
+    entered[x].is_none() && is_open(heads, x)
 }
 
 /// Goes back from a point that was taken, as long as nothing leads there but a step from the point before, and finds the
 /// points. The last of them is taken in its place: most points are found so, and never wait. Each is found once, since
 /// from those in between nothing is passed on but this way.
-// Apart, so that its loop keeps all that it needs in registers.
+// What is only read is read once, and the loop keeps it in registers.
 #[inline(never)]
 fn run_back(flow: &Flow, backward: &Backward, search: &mut Search, x: u32) -> u32
     requires shape { HasShape flow.now }
@@ -186,12 +186,14 @@ fn run_back(flow: &Flow, backward: &Backward, search: &mut Search, x: u32) -> u3
     ensures taken { IsTaken flow.now search.new result }
     ensures on { RunsOn search.old search.new }
 {
-    let mut at = x;
-    'run: while at > 0 && is_stepped_to(flow, backward, at) {
+    let entered: &[Option<u32>] = &flow.entered;
+    let heads = backward.chains.heads();
+    let mut at = x as usize;
+    'run: while at > 0 && is_stepped_to(entered, heads, at) {
         at -= 1;
         search.mark(at);
     }
-    at
+    at as u32
 }
 
 /// Finds the points from which a return may come. Each point is passed on once, and each edge is looked at a few times.

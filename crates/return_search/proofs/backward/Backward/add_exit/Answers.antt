@@ -10,17 +10,17 @@ use Rattle.return_search.specs.declared.backward.Lead.TheVariants.{Call}
 use Rattle.return_search.specs.Chained.{IsOpen}
 use Rattle.return_search.specs.Told.{exit_at, start_of}
 use Rattle.return_search.specs.Shape.{points_of}
-use Rattle.return_search.specs.Backward.{AreLeads, IsBackwardTo, called}
+use Rattle.return_search.specs.Backward.{AreLeads, IsBackwardTo, StepsOn, called}
 use Rattle.return_search.proofs.Leading.{chains_more, leads_call, leads_no_call, leaving_no, open_next, open_still}
 use Rattle.return_search.proofs.backward.Backward.add_exit.Goals as goal
 
 -- one that doesn't call is not listed
-no_call : (flow : Flow) (backward : Backward) (q : ℕ) → IsBackwardTo flow backward q (start_of flow q) → (IsOpen backward.chains.heads.items (q + 1) → ⊥) → ((entry : ℕ) → exit_at flow q ≢ Calls entry) → IsBackwardTo flow backward (q + 1) (start_of flow q)
-no_call flow backward q was closed none = record {
+no_call : (flow : Flow) (backward : Backward) (q : ℕ) → IsBackwardTo flow backward q (start_of flow q) → (IsOpen backward.chains.heads.items (q + 1) → StepsOn flow q) → ((entry : ℕ) → exit_at flow q ≢ Calls entry) → IsBackwardTo flow backward (q + 1) (start_of flow q)
+no_call flow backward q was steps none = record {
   leads = leads_no_call flow backward.leads.items q (start_of flow q) was.leads none;
   chains = was.chains;
   heads = was.heads;
-  steps = open_next flow backward.chains.heads.items q was.steps closed;
+  steps = open_next flow backward.chains.heads.items q was.steps steps;
 }
 
 pub add-requires : goal.add-requires
@@ -44,7 +44,7 @@ returns-in_ok-add-in-Calls-clause-one_more c =
       leads = subst (λ (ls : List Lead). AreLeads flow ls (q + 1) (start_of flow q)) (sym pushed) (leads_call flow before.leads.items q (start_of flow q) was.leads c.requires.point);
       chains = chains_more flow before after (Call q) c.in-Calls.entry (ap called is) pushed c.in_ok-add-in-Calls.ensures.chains was.chains;
       heads = c.add.ensures.heads ∙ was.heads;
-      steps = open_next flow after.chains.heads.items q (open_still flow before.chains.heads.items after.chains.heads.items q c.add.ensures.opens was.steps) (λ is_open. c.requires.closed (c.add.ensures.opens (q + 1) is_open));
+      steps = open_next flow after.chains.heads.items q (open_still flow before.chains.heads.items after.chains.heads.items q c.add.ensures.opens was.steps) (λ is_open. c.requires.steps (c.add.ensures.opens (q + 1) is_open));
     }
 
 pub returns-in_ok-add-in-Calls-clause-search : goal.returns-in_ok-add-in-Calls-clause-search
@@ -59,7 +59,7 @@ returns-in-Leaves-clause-one_more c =
     let flow = c.args.flow.now in
     let q = c.args.q in
     let is : exit_at flow q ≡ Leaves = sym (get_or_read flow.exits.items q (c.index.result).now c.requires.point c.index.ensures Passes) ∙ c.in-Leaves.is in
-    no_call flow c.args.self.now q c.requires.so_far c.requires.closed (λ entry e. let z : ⊥ = cc in z)
+    no_call flow c.args.self.now q c.requires.so_far c.requires.steps (λ entry e. let z : ⊥ = cc in z)
 
 -- what is none of two kinds
 neither : (x : Exit) → (x ≡ CallsOut) ⊎ ((x ≡ CallsNever) ⊎ (x ≡ Passes)) → ((entry : ℕ) → x ≢ Calls entry) × (x ≢ Leaves)
@@ -74,6 +74,6 @@ returns-in-CallsOut c =
     let read : (c.index.result).now ≡ exit_at flow q = get_or_read flow.exits.items q (c.index.result).now c.requires.point c.index.ensures Passes in
     let none = neither (c.index.result).now c.in-CallsOut.is in
     record {
-      one_more = no_call flow c.args.self.now q c.requires.so_far c.requires.closed (λ entry e. none.0 entry (read ∙ e));
+      one_more = no_call flow c.args.self.now q c.requires.so_far c.requires.steps (λ entry e. none.0 entry (read ∙ e));
       search = leaving_no flow c.args.search.now q (λ e. none.1 (read ∙ e)) c.requires.search;
     }
