@@ -8,7 +8,6 @@ use Rattle.machine_defs.specs.declared.flow.Edge.{Edge}
 use Rattle.return_search.specs.declared.searched_flow.Flow.{Flow}
 use Rattle.return_search.specs.Told.{edges_from, start_of}
 use Rattle.return_search.specs.Shape.{HasShape, points_of}
-use Rattle.return_search.specs.Search.{is_set}
 use Rattle.return_search.specs.Stays.{AreKept, stays}
 use Rattle.return_search.proofs.Keeping.{kept_more, kept_none, kept_part}
 
@@ -53,7 +52,7 @@ module _ {X : Type 0} (p : X → Bool) (old now : List X) (from i : ℕ) (e d : 
   dropped_one kept end is so_far = so_far ∙ ap (λ (xs : List X). take kept old ++ xs) (sym (filter_more false is ∙ append-nil (filter p (part i))))
 
 -- those of the first points, which all come back, are kept as they are
-pub first_kept : (flow : Flow) → HasShape flow → (comes_back : List Bool) (n : ℕ) → n ≤ points_of flow → ((q : ℕ) → 0 ≤ q → q < n → is_set comes_back q ≡ true) → AreKept flow comes_back (take (n + 1) flow.starts.items) (take (start_of flow n) flow.edges.items) n
+pub first_kept : (flow : Flow) → HasShape flow → (comes_back : ℕ → Bool) (n : ℕ) → n ≤ points_of flow → ((q : ℕ) → 0 ≤ q → q < n → comes_back q ≡ true) → AreKept flow comes_back (take (n + 1) flow.starts.items) (take (start_of flow n) flow.edges.items) n
 first_kept flow shape comes_back n inside back =
     let starts = flow.starts.items in
     let room : n + 1 ≤ length starts = omega (arith, inside, shape.starts) in
@@ -66,16 +65,16 @@ first_kept flow shape comes_back n inside back =
     (λ k from l. omega (arith, at k l, shape.first)))
 
 -- the edges of one point more, and of those behind it that come back
-module _ (flow : Flow) (shape : HasShape flow) (comes_back : List Bool) (starts less : List ℕ) (edges own moved : List Edge) (q n kept from to until end : ℕ) (inside : q < points_of flow) (kept_so_far : AreKept flow comes_back (take (q + 1) starts) (take kept edges) q) where
+module _ (flow : Flow) (shape : HasShape flow) (comes_back : ℕ → Bool) (starts less : List ℕ) (edges own moved : List Edge) (q n kept from to until end : ℕ) (inside : q < points_of flow) (kept_so_far : AreKept flow comes_back (take (q + 1) starts) (take kept edges) q) where
   abbrev new : List Edge
-  new = filter (λ e. stays (is_set comes_back q) e.kind) (edges_from flow q)
+  new = filter (λ e. stays (comes_back q) e.kind) (edges_from flow q)
 
   abbrev all : List Edge
   all = take kept edges ++ new
 
   pub points_kept : length starts ≡ length flow.starts.items → from ≡ start_of flow q → to ≡ start_of flow (q + 1) → until ≡ start_of flow n → drop from edges ≡ drop from flow.edges.items
-      → take end own ≡ take kept edges ++ filter (λ e. stays (is_set comes_back q) e.kind) (slice_range edges from to) → end ≤ to → end ≤ length own → drop to own ≡ drop to edges
-      → from ≤ to → q + 1 ≤ n → n ≤ points_of flow → ((k : ℕ) → q + 1 ≤ k → k < n → is_set comes_back k ≡ true)
+      → take end own ≡ take kept edges ++ filter (λ e. stays (comes_back q) e.kind) (slice_range edges from to) → end ≤ to → end ≤ length own → drop to own ≡ drop to edges
+      → from ≤ to → q + 1 ≤ n → n ≤ points_of flow → ((k : ℕ) → q + 1 ≤ k → k < n → comes_back k ≡ true)
       → take (end + (until - to)) moved ≡ take end own ++ slice_range own to until
       → length less ≡ length starts → ((k : ℕ) → k < q + 1 → slice_index less k ≡ slice_index starts k) → ((k : ℕ) → q + 1 ≤ k → k < n + 1 → slice_index less k + (to - end) ≡ slice_index starts k) → ((k : ℕ) → q < k → slice_index starts k ≡ start_of flow k)
       → AreKept flow comes_back (take (n + 1) less) (take (end + (until - to)) moved) n
@@ -87,7 +86,7 @@ module _ (flow : Flow) (shape : HasShape flow) (comes_back : List Bool) (starts 
       range = ap (take (to - from)) rest ∙ (ap (λ (a : ℕ). slice_range flow.edges.items a to) starts_at ∙ ap (λ (b : ℕ). slice_range flow.edges.items (start_of flow q) b) ends_at)
 
       now : take end own ≡ all
-      now = is ∙ ap (λ (es : List Edge). take kept edges ++ filter (λ e. stays (is_set comes_back q) e.kind) es) range
+      now = is ∙ ap (λ (es : List Edge). take kept edges ++ filter (λ e. stays (comes_back q) e.kind) es) range
 
       count : end ≡ length all
       count = sym (length-take-le end own within) ∙ ap length now

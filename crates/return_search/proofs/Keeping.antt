@@ -10,12 +10,11 @@ use Rattle.machine_defs.specs.declared.flow.EdgeKind.TheVariants.{Next, Taken, F
 use Rattle.return_search.specs.declared.searched_flow.Flow.{Flow}
 use Rattle.return_search.specs.Told.{edges_from, start_of}
 use Rattle.return_search.specs.Shape.{HasShape, points_of}
-use Rattle.return_search.specs.Search.{is_set}
 use Rattle.return_search.specs.Stays.{stays, AreKept}
 use Rattle.return_search.proofs.Ranges.{ends_within, length_range, range_behind, range_new, range_of_range, range_push, starts_ascend}
 
 -- of no point
-pub kept_none : (flow : Flow) (comes_back : List Bool) → AreKept flow comes_back (0 ∷ []) [] 0
+pub kept_none : (flow : Flow) (comes_back : ℕ → Bool) → AreKept flow comes_back (0 ∷ []) [] 0
 kept_none flow comes_back = record {
   long = omega arith;
   end = refl;
@@ -27,14 +26,14 @@ kept_none flow comes_back = record {
 }
 
 -- of one point more
-module _ (flow : Flow) (shape : HasShape flow) (comes_back : List Bool) (starts : List ℕ) (edges : List Edge) (n : ℕ) (inside : n < points_of flow) (kept : AreKept flow comes_back starts edges n) where
+module _ (flow : Flow) (shape : HasShape flow) (comes_back : ℕ → Bool) (starts : List ℕ) (edges : List Edge) (n : ℕ) (inside : n < points_of flow) (kept : AreKept flow comes_back starts edges n) where
   abbrev pub new : List Edge
-  new = filter (λ e. stays (is_set comes_back n) e.kind) (edges_from flow n)
+  new = filter (λ e. stays (comes_back n) e.kind) (edges_from flow n)
 
   new_short : length new ≤ start_of flow (n + 1) - start_of flow n
   new_short =
-      let a = length-filter (λ (e : Edge). stays (is_set comes_back n) e.kind) (edges_from flow n) in
-      let b = count_by-le-length (λ (e : Edge). stays (is_set comes_back n) e.kind) (edges_from flow n) in
+      let a = length-filter (λ (e : Edge). stays (comes_back n) e.kind) (edges_from flow n) in
+      let b = count_by-le-length (λ (e : Edge). stays (comes_back n) e.kind) (edges_from flow n) in
       let d = length_range flow.edges.items (start_of flow n) (start_of flow (n + 1)) (ends_within flow shape n inside) in
       omega (arith, a, b, d)
 
@@ -84,17 +83,17 @@ module _ (flow : Flow) (shape : HasShape flow) (comes_back : List Bool) (starts 
       ap (λ (a : ℕ). slice_range (edges ++ new) a (slice_index all_starts (n + 1))) (start_old n (omega arith) ∙ kept.end)
       ∙ (ap (slice_range (edges ++ new) (length edges)) start_new ∙ range_new edges new)
 
-  each : (q : ℕ) → q < n + 1 → slice_range (edges ++ new) (slice_index all_starts q) (slice_index all_starts (q + 1)) ≡ filter (λ e. stays (is_set comes_back q) e.kind) (edges_from flow q)
+  each : (q : ℕ) → q < n + 1 → slice_range (edges ++ new) (slice_index all_starts q) (slice_index all_starts (q + 1)) ≡ filter (λ e. stays (comes_back q) e.kind) (edges_from flow q)
   each q l = elim (split q l) [
     | inl less ↦ range_old q less ∙ kept.each q less
-    | inr same ↦ subst (λ (k : ℕ). slice_range (edges ++ new) (slice_index all_starts k) (slice_index all_starts (k + 1)) ≡ filter (λ e. stays (is_set comes_back k) e.kind) (edges_from flow k)) (sym same) range_last
+    | inr same ↦ subst (λ (k : ℕ). slice_range (edges ++ new) (slice_index all_starts k) (slice_index all_starts (k + 1)) ≡ filter (λ e. stays (comes_back k) e.kind) (edges_from flow k)) (sym same) range_last
   ]
 
   targets : All (λ e. e.to < points_of flow) (edges ++ new)
   targets =
       let P : Edge → Type 0 = λ e. e.to < points_of flow in
       All-append P edges new kept.targets
-      (All-filter (λ e. stays (is_set comes_back n) e.kind) P (edges_from flow n) (All-take P (start_of flow (n + 1) - start_of flow n) (drop (start_of flow n) flow.edges.items) (All-drop P (start_of flow n) flow.edges.items shape.targets)))
+      (All-filter (λ e. stays (comes_back n) e.kind) P (edges_from flow n) (All-take P (start_of flow (n + 1) - start_of flow n) (drop (start_of flow n) flow.edges.items) (All-drop P (start_of flow n) flow.edges.items shape.targets)))
 
   pub kept_more : AreKept flow comes_back (starts ++ length (edges ++ new) ∷ []) (edges ++ new) (n + 1)
   kept_more = record {
@@ -123,7 +122,7 @@ stays_all comes_back is (e ∷ edges) = ap (λ (b : Bool). if_cons b (filter (λ
     if_cons b es = if b then e ∷ es else es
 
 -- of points that all come back: the new starts say as much less than the flow's, from the first of them on
-module _ (flow : Flow) (shape : HasShape flow) (comes_back : List Bool) (starts : List ℕ) (edges : List Edge) (n : ℕ) (kept : AreKept flow comes_back starts edges n) (m : ℕ) (ordered : n ≤ m) (inside : m ≤ points_of flow) (back : (q : ℕ) → n ≤ q → q < m → is_set comes_back q ≡ true) (after : List ℕ) (long : length after ≡ m + 1) (same : (k : ℕ) → k ≤ n → slice_index after k ≡ slice_index starts k) (less : (k : ℕ) → n ≤ k → k ≤ m → slice_index after k + start_of flow n ≡ start_of flow k + length edges) where
+module _ (flow : Flow) (shape : HasShape flow) (comes_back : ℕ → Bool) (starts : List ℕ) (edges : List Edge) (n : ℕ) (kept : AreKept flow comes_back starts edges n) (m : ℕ) (ordered : n ≤ m) (inside : m ≤ points_of flow) (back : (q : ℕ) → n ≤ q → q < m → comes_back q ≡ true) (after : List ℕ) (long : length after ≡ m + 1) (same : (k : ℕ) → k ≤ n → slice_index after k ≡ slice_index starts k) (less : (k : ℕ) → n ≤ k → k ≤ m → slice_index after k + start_of flow n ≡ start_of flow k + length edges) where
   abbrev part : List Edge
   part = slice_range flow.edges.items (start_of flow n) (start_of flow m)
 
@@ -176,10 +175,10 @@ module _ (flow : Flow) (shape : HasShape flow) (comes_back : List Bool) (starts 
       ∙ (range_of_range flow.edges.items a (start_of flow m) i j (omega (arith, step)) (omega (arith, behind, last))
       ∙ (ap (λ (k : ℕ). slice_range flow.edges.items k (a + j)) there ∙ ap (slice_range flow.edges.items (start_of flow q)) behind))))
 
-  part_each : (q : ℕ) → q < m → slice_range (edges ++ part) (slice_index after q) (slice_index after (q + 1)) ≡ filter (λ e. stays (is_set comes_back q) e.kind) (edges_from flow q)
+  part_each : (q : ℕ) → q < m → slice_range (edges ++ part) (slice_index after q) (slice_index after (q + 1)) ≡ filter (λ e. stays (comes_back q) e.kind) (edges_from flow q)
   part_each q l = elim (split_at q n) [
     | inl below ↦ part_old q below ∙ kept.each q below
-    | inr from ↦ part_new q from l ∙ sym (stays_all (is_set comes_back q) (back q from l) (edges_from flow q))
+    | inr from ↦ part_new q from l ∙ sym (stays_all (comes_back q) (back q from l) (edges_from flow q))
   ]
 
   part_targets : All (λ e. e.to < points_of flow) (edges ++ part)

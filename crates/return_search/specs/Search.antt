@@ -25,6 +25,10 @@ target_returns known CallsOut = true
 target_returns known CallsNever = false
 target_returns known Passes = true
 
+-- the entries that are called are below a number
+abbrev pub CallBelow : List Exit → ℕ → Type 0
+CallBelow exits count = (q entry : ℕ) → slice_index_or exits q Passes ≡ Calls entry → entry < count
+
 -- whether a point is a call
 abbrev pub is_calling : Exit → Bool
 is_calling Leaves = false

@@ -2,23 +2,23 @@
 
 ghost use Rattle.std.specs.Prelude.{◌≡◌, ◌+◌, ◌<◌, ◌≤◌, ◌&&◌, ℕ, true, false, IsTrue, length, slice_index, slice_index_or, slice_set};
 ghost use Rattle.machine_defs.specs.declared.flow.EdgeKind.TheVariants.{Next};
+ghost use Rattle.return_search.specs.declared.searched_flow.Exit.TheVariants.{Passes};
 ghost use Rattle.return_search.specs.Told.{dead_end_at, exit_at};
 ghost use Rattle.return_search.specs.Shape.{HasShape, points_of};
 ghost use Rattle.return_search.specs.Backward.{IsEdgeOf, IsPlain, PassesOn, StepsOn, edge_at};
-ghost use Rattle.return_search.specs.Search.{AreListed, carries as carries_back, is_set, target_returns as does_target_return, is_calling};
+ghost use Rattle.return_search.specs.Search.{AreListed, CallBelow, carries as carries_back, is_set, target_returns as does_target_return, is_calling};
 
 use crate::return_search::Search;
 use crate::searched_flow::{Exit, Flow};
 use machine_defs::{Edge, EdgeKind};
 
 /// Whether the target of a point's call returns, as far as it is known. What isn't a call passes.
-pub(crate) fn target_returns(flow: &Flow, known: &[bool], q: u32) -> bool
-    requires shape { HasShape flow.now }
-    requires known { length known.now ≡ points_of flow.now }
-    requires point { q < points_of flow.now }
-    ensures { result ≡ does_target_return known.now (exit_at flow.now q) }
+pub(crate) fn target_returns(exits: &[Exit], known: &[bool], q: usize) -> bool
+    requires known { CallBelow exits.now (length known.now) }
+    requires point { q < length exits.now }
+    ensures { result ≡ does_target_return known.now (slice_index_or exits.now q Passes) }
 {
-    match flow.exits[q as usize] {
+    match exits[q] {
         Exit::Calls { entry } => known[entry as usize],
         Exit::CallsNever => false,
         Exit::Leaves | Exit::CallsOut | Exit::Passes => true,
@@ -47,7 +47,7 @@ fn carries_next(flow: &Flow, known: &[bool], q: u32) -> bool
     if let Exit::Passes = flow.exits[q as usize] {
         return true;
     }
-    target_returns(flow, known, q) && !is_dead_call(flow, q)
+    target_returns(&flow.exits, known, q as usize) && !is_dead_call(flow, q)
 }
 
 /// Whether a return that may come from the end of an edge of this kind may come from its point too.

@@ -1,5 +1,5 @@
 -- The edges are put behind those that are kept.
-use Rattle.std.proofs.Common.{◌≡◌, ◌+◌, ◌-◌, ◌≤◌, length, take, drop, ap, ◌∙◌, arith, length-drop}
+use Rattle.std.proofs.Common.{◌+◌, ◌-◌, ◌≤◌, length, take, drop, ap, ◌∙◌, arith, length-drop}
 use Rattle.std.proofs.lemmas.List.Edits.{drop-paste, length-paste, take-paste}
 use Rattle.return_search.proofs.Dropping.{same_behind}
 use Rattle.return_search.proofs.kept_edges.move_edges.Goals as goal

@@ -1,8 +1,7 @@
 -- All edges of the point are listed.
-use Rattle.std.proofs.Common.{◌≡◌, ◌<◌, ◌≤◌, ◌+◌, subst, arith}
+use Rattle.std.proofs.Common.{◌≡◌, ◌≤◌, ◌+◌, subst, arith}
 use Rattle.std.proofs.lemmas.List.{get_or_read}
 use Rattle.return_search.specs.Told.{start_of}
-use Rattle.return_search.specs.Shape.{points_of}
 use Rattle.return_search.specs.Backward.{IsBackwardTo}
 use Rattle.return_search.proofs.backward.Backward.add_point.Goals as goal
 

@@ -1,5 +1,5 @@
 -- No more points are open.
-use Rattle.std.proofs.Common.{ℕ, Option, map, ◌∙◌}
+use Rattle.std.proofs.Common.{map, ◌∙◌}
 use Rattle.return_search.specs.Backward.{key_of}
 use Rattle.return_search.proofs.Leading.{open_still}
 use Rattle.return_search.proofs.backward.Backward.close_behind.Goals as goal

@@ -1,5 +1,5 @@
 -- One point that isn't plain, and those behind it that are.
-use Rattle.std.proofs.Common.{◌≡◌, ◌≤◌, ◌<◌, ◌+◌, ℕ, sym, subst, ◌∙◌, arith}
+use Rattle.std.proofs.Common.{◌≡◌, ◌+◌, ℕ, sym, subst, arith}
 use Rattle.return_search.specs.Told.{start_of}
 use Rattle.return_search.specs.Shape.{points_of}
 use Rattle.return_search.specs.Backward.{IsBackwardTo}
