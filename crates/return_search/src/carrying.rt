@@ -86,11 +86,8 @@ fn passes_on(flow: &Flow, q: u32) -> bool
     requires point { q < points_of flow.now }
     ensures { IsTrue result → PassesOn flow.now q }
 {
-    match flow.exits[q as usize] {
-        Exit::Passes => true,
-        Exit::CallsOut => !flow.dead_ends[q as usize],
-        Exit::Leaves | Exit::Calls { .. } | Exit::CallsNever => false,
-    }
+    let exit = flow.exits[q as usize];
+    matches!(exit, Exit::Passes) || (matches!(exit, Exit::CallsOut) && !flow.dead_ends[q as usize])
 }
 
 /// Whether a point's first edge leads to the point right behind it, and any return is carried over it.
@@ -128,7 +125,7 @@ pub(crate) fn end_of_plain(flow: &Flow, from: u32) -> u32
     let mut first = starts[q] as usize;
     'plain: while q < exits.len()
         && starts[q + 1] as usize == first + 1
-        && edges[first].to as usize == q + 1
+        && edges[first].to == (q + 1) as u32
         && matches!(exits[q], Exit::Passes)
     {
         q += 1;

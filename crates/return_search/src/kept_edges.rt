@@ -56,8 +56,23 @@ fn move_edges(edges: &mut Vec<Edge>, kept: usize, from: usize, to: usize)
     edges.copy_within(from..to, kept);
 }
 
-/// Takes as much off the starts from one number to another.
+/// Takes as much off the numbers from one place to another.
 #[inline(never)]
+fn lessen_each(numbers: &mut [u32], from: usize, to: usize, by: u32)
+    requires ordered { from ≤ to }
+    requires inside { to ≤ length numbers.old }
+    requires enough { (k : ℕ) → from ≤ k → k < to → by ≤ slice_index numbers.old k }
+    ensures less { (k : ℕ) → from ≤ k → k < to → slice_index numbers.new k + by ≡ slice_index numbers.old k }
+    ensures before { (k : ℕ) → k < from → slice_index numbers.new k ≡ slice_index numbers.old k }
+    ensures behind { (k : ℕ) → to ≤ k → slice_index numbers.new k ≡ slice_index numbers.old k }
+    ensures long { length numbers.new ≡ length numbers.old }
+{
+    for k in from..to {
+        numbers[k] -= by;
+    }
+}
+
+/// Takes as much off the starts from one number to another.
 fn lessen_starts(starts: &mut Vec<u32>, from: usize, to: usize, by: u32)
     requires ordered { from ≤ to }
     requires inside { to ≤ length starts.old.items }
@@ -67,9 +82,7 @@ fn lessen_starts(starts: &mut Vec<u32>, from: usize, to: usize, by: u32)
     ensures behind { (k : ℕ) → to ≤ k → slice_index starts.new.items k ≡ slice_index starts.old.items k }
     ensures long { length starts.new.items ≡ length starts.old.items }
 {
-    for k in from..to {
-        starts[k] -= by;
-    }
+    lessen_each(starts, from, to, by);
 }
 
 /// Whether the target of a point's call returns. Most points pass.

@@ -17,7 +17,7 @@ use crate::searched_flow::Flow;
 use ot_base::NoMemory;
 use std::alloc::Global;
 
-/// Finds a point, if a return is carried to it from one that is found.
+/// Finds a point, if it isn't found yet and a return is carried to it from one that is.
 fn find_carried(flow: &Flow, search: &mut Search, q: u32)
     requires shape { HasShape flow.now }
     requires listed { AreListed flow.now search.old }
@@ -26,6 +26,9 @@ fn find_carried(flow: &Flow, search: &mut Search, q: u32)
     ensures more { FindsMore flow.now search.old search.new }
     ensures found { (i : ℕ) → IsCarriedBy flow.now search.old.found.items search.old.known.items q i → is_set search.new.found.items q ≡ true }
 {
+    if search.found[q as usize] {
+        return;
+    }
     if is_carried_to(flow, search, q) {
         search.find(flow, q);
     }
@@ -174,9 +177,8 @@ fn is_stepped_to(entered: &[Option<u32>], heads: &[u32], x: usize) -> bool
     entered[x].is_none() && is_open(heads, x)
 }
 
-/// Goes back from a point that was taken, as long as nothing leads there but a step from the point before, and finds the
-/// points. The last of them is taken in its place: most points are found so, and never wait. Each is found once, since
-/// from those in between nothing is passed on but this way.
+/// Goes back from a point that was taken, as long as nothing leads there but a step from the point before, which isn't found
+/// yet, and finds the points. The last of them is taken in its place: most points are found so, and never wait.
 // What is only read is read once, and the loop keeps it in registers.
 #[inline(never)]
 fn run_back(flow: &Flow, backward: &Backward, search: &mut Search, x: u32) -> u32
@@ -189,7 +191,7 @@ fn run_back(flow: &Flow, backward: &Backward, search: &mut Search, x: u32) -> u3
     let entered: &[Option<u32>] = &flow.entered;
     let heads = backward.chains.heads();
     let mut at = x as usize;
-    'run: while at > 0 && is_stepped_to(entered, heads, at) {
+    'run: while at > 0 && !search.found[at - 1] && is_stepped_to(entered, heads, at) {
         at -= 1;
         search.mark(at);
     }
@@ -200,6 +202,8 @@ fn run_back(flow: &Flow, backward: &Backward, search: &mut Search, x: u32) -> u3
 ///
 /// The points from which a return comes are found first. All that a point leads to is passed on before the next of them is
 /// taken, so that the search stays in one function for long.
+// Apart, so that its loop shares registers with nothing else.
+#[inline(never)]
 pub(crate) fn spread(alloc: Global, flow: &Flow) -> Result<Search, NoMemory>
     requires { HasShape flow.now }
     ensures listed { IfOk result (AreListed flow.now) }
