@@ -85,13 +85,15 @@ fn lessen_starts(starts: &mut Vec<u32>, from: usize, to: usize, by: u32)
     lessen_each(starts, from, to, by);
 }
 
-/// Whether the target of a point's call returns. Most points pass.
+/// Whether the target of a point's call returns.
+// Apart, so that the loop over the points, most of which pass, is none over a jump table.
+#[inline(never)]
 fn call_returns(exits: &[Exit], known: &[bool], q: usize) -> bool
     requires known { CallBelow exits.now (length known.now) }
     requires point { q < length exits.now }
     ensures { result ≡ target_returns known.now (slice_index_or exits.now q Passes) }
 {
-    matches!(exits[q], Exit::Passes) || does_target_return(exits, known, q)
+    does_target_return(exits, known, q)
 }
 
 /// The first point from one on the target of whose call doesn't return, or the end of the points.
@@ -105,7 +107,9 @@ fn end_of_returning(exits: &[Exit], known: &[bool], from: usize) -> usize
     ensures end { result < length exits.now → target_returns known.now (slice_index_or exits.now result Passes) ≡ false }
 {
     let mut q = from;
-    'returning: while q < exits.len() && call_returns(exits, known, q) {
+    'returning: while q < exits.len()
+        && (matches!(exits[q], Exit::Passes) || call_returns(exits, known, q))
+    {
         q += 1;
     }
     q

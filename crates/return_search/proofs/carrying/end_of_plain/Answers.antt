@@ -13,5 +13,5 @@ bounds-edges-first c =
     let q : ℕ = c.plain.q in
     let inside : q < points_of flow = omega (arith, c.plain-test.true, c.deref-exits.ensures.len) in
     let read : get_or c.deref-starts.result.now (q + 1) 0 ≡ start_of flow (q + 1) = ap (λ (ss : List ℕ). get_or ss (q + 1) 0) c.deref-starts.ensures.value in
-    let first : c.plain.first < length flow.edges.items = omega (arith, c.if-starts-q.true, read, c.plain.invariant.first, ends_within flow shape q inside) in
+    let first : c.plain.first < length flow.edges.items = omega (arith, c.if-starts-q.true, read, c.plain.invariant.first, ends_within flow shape q inside, shape.ascending q inside, shape.few_edges) in
     subst (λ (es : List Edge). c.plain.first < length es) (sym c.deref-edges.ensures.value) first
