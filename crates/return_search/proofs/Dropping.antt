@@ -1,7 +1,7 @@
 -- Edges that stay are moved to the front of their list.
 use Rattle.std.proofs.Common.{◌≡◌, ℕ, ◌+◌, ◌-◌, ◌<◌, ◌≤◌, ◌⊎◌, inl, inr, Bool, true, false, cond, List, [], ◌∷◌, ◌++◌, drop, filter, get_or, length, set, take, sym, ap, ◌∙◌, subst, arith, length-drop}
 use Rattle.std.specs.Prelude.{slice_index, slice_range}
-use Rattle.std.proofs.lemmas.List.{append_assoc, append-nil, drop-drop, drop-set-lt, get_or-drop, get_or-take, get_or_append_left, get_or_push, length-take-le, take_more, take_more_set}
+use Rattle.std.proofs.lemmas.List.{append_assoc, append-nil, drop-drop, drop-set-lt, get_or-drop, get_or-take, get_or_append_left, get_or_push, get_or_read, length-take-le, take_more, take_more_set}
 use Rattle.std.proofs.lemmas.List.Elements.{filter-append}
 use Rattle.std.proofs.lemmas.Grind.{drop_more_same}
 use Rattle.machine_defs.specs.declared.flow.Edge.{Edge}
@@ -63,6 +63,10 @@ first_kept flow shape comes_back n inside back =
     (kept_part flow shape comes_back (0 ∷ []) [] 0 (kept_none flow comes_back) n (omega arith) inside back (take (n + 1) starts) (length-take-le (n + 1) starts room)
     (λ k l. let zero : k ≡ 0 = omega arith in subst (λ (j : ℕ). get_or (take (n + 1) starts) j 0 ≡ get_or (0 ∷ []) j 0) (sym zero) (at 0 (omega arith) ∙ shape.first))
     (λ k from l. omega (arith, at k l, shape.first)))
+
+-- where the edges of a point further on begin is what it was
+pub start_at : (flow : Flow) → HasShape flow → (starts : List ℕ) (q k n : ℕ) → length starts ≡ length flow.starts.items → ((j : ℕ) → q < j → slice_index starts j ≡ start_of flow j) → q < k → k ≤ points_of flow → n ≡ get_or starts k n → n ≡ start_of flow k
+start_at flow shape starts q k n long same behind inside read = get_or_read starts k n (omega (arith, long, shape.starts, inside)) read 0 ∙ same k behind
 
 -- the edges of one point more, and of those behind it that come back
 module _ (flow : Flow) (shape : HasShape flow) (comes_back : ℕ → Bool) (starts less : List ℕ) (edges own moved : List Edge) (q n kept from to until end : ℕ) (inside : q < points_of flow) (kept_so_far : AreKept flow comes_back (take (q + 1) starts) (take kept edges) q) where

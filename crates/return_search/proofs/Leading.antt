@@ -12,7 +12,7 @@ use Rattle.return_search.specs.Chained.{AreChains, IsOpen, OpensNone}
 use Rattle.return_search.specs.Told.{exit_at, start_of}
 use Rattle.return_search.specs.Shape.{HasShape, points_of}
 use Rattle.return_search.specs.Backward.{AreLeads, IsBackwardTo, IsEdgeOf, IsLead, IsPlain, StepsOn, edge_at, key_of}
-use Rattle.return_search.specs.Search.{IsLeavingTo}
+use Rattle.return_search.specs.Search.{IsSearchTo}
 use Rattle.return_search.proofs.Passing.{leaving_next}
 use Rattle.return_search.proofs.Ranges.{starts_ascend}
 use Rattle.return_search.proofs.SearchSteps.{edge_of_one, extends_itself}
@@ -124,7 +124,7 @@ module _ (flow : Flow) (shape : HasShape flow) (n e : ℕ) (ordered : n ≤ e) (
     steps = λ q l is. elim (split_at q n) [ inl before ↦ are.steps q before is | inr from ↦ plain_steps flow q (plain q from l) ];
   }
 
-  pub leaving_plain : (s : Search) → IsLeavingTo flow s n → IsLeavingTo flow s e
+  pub leaving_plain : (s : Search) → IsSearchTo flow s n → IsSearchTo flow s e
   leaving_plain s are = record {
     search = are.search;
     leaving = λ q l is. elim (split_at q n) [
@@ -145,7 +145,7 @@ open_next flow heads n steps next q l is = elim (split_last q n l) [
 ]
 
 -- a point from which no return comes
-pub leaving_no : (flow : Flow) (s : Search) (n : ℕ) → exit_at flow n ≢ Leaves → IsLeavingTo flow s n → IsLeavingTo flow s (n + 1)
+pub leaving_no : (flow : Flow) (s : Search) (n : ℕ) → exit_at flow n ≢ Leaves → IsSearchTo flow s n → IsSearchTo flow s (n + 1)
 leaving_no flow s n none are = record { search = are.search; leaving = leaving_next flow s s n are.leaving (extends_itself s) (λ is. absurd (none is)) }
 
 -- one more of either kind is listed in the chain of where it leads

@@ -121,6 +121,6 @@ pub record RunsOn (before after : Search) : Type 0 where
   pub more : count_by (λ b. b) before.found.items ≤ count_by (λ b. b) after.found.items
 
 -- a search that has found those of the first n points from which a return comes, and that has passed on what isn't listed
-pub record IsLeavingTo (flow : Flow) (s : Search) (n : ℕ) : Type 0 where
+pub record IsSearchTo (flow : Flow) (s : Search) (n : ℕ) : Type 0 where
   pub search : IsSearch flow s
   pub leaving : FindsLeaving flow s.found.items n

@@ -6,7 +6,7 @@ ghost use Rattle.return_search.specs.declared.searched_flow.Exit.TheVariants.{Le
 ghost use Rattle.return_search.specs.Shape.{HasShape, points_of};
 ghost use Rattle.return_search.specs.Told.{exit_at, start_of};
 ghost use Rattle.return_search.specs.Backward.{IsBackward, IsBackwardTo, IsEdgeOf, StepsOn};
-ghost use Rattle.return_search.specs.Search.{IsLeavingTo};
+ghost use Rattle.return_search.specs.Search.{IsSearchTo};
 
 use crate::carrying::{end_of_plain, steps_on};
 use crate::chains::Chains;
@@ -39,8 +39,8 @@ fn find_leaving(flow: &Flow, search: &mut Search, q: u32)
     requires shape { HasShape flow.now }
     requires point { q < points_of flow.now }
     requires leaves { exit_at flow.now q ≡ Leaves }
-    requires so_far { IsLeavingTo flow.now search.old q }
-    ensures { IsLeavingTo flow.now search.new (q + 1) }
+    requires so_far { IsSearchTo flow.now search.old q }
+    ensures { IsSearchTo flow.now search.new (q + 1) }
 {
     search.find(flow, q);
 }
@@ -95,9 +95,9 @@ impl Backward {
         requires point { q < points_of flow.now }
         requires so_far { IsBackwardTo flow.now self.old q (start_of flow.now q) }
         requires steps { IsOpen self.old.chains.heads.items (q + 1) → StepsOn flow.now q }
-        requires search { IsLeavingTo flow.now search.old q }
+        requires search { IsSearchTo flow.now search.old q }
         ensures one_more { OnOk result (IsBackwardTo flow.now self.new (q + 1) (start_of flow.now q)) }
-        ensures search { OnOk result (IsLeavingTo flow.now search.new (q + 1)) }
+        ensures search { OnOk result (IsSearchTo flow.now search.new (q + 1)) }
     {
         match flow.exits[q as usize] {
             Exit::Calls { entry } => self.add(Lead::Call { from: q }, entry)?,
@@ -128,9 +128,9 @@ impl Backward {
         requires shape { HasShape flow.now }
         requires point { q < points_of flow.now }
         requires so_far { IsBackwardTo flow.now self.old q (start_of flow.now q) }
-        requires search { IsLeavingTo flow.now search.old q }
+        requires search { IsSearchTo flow.now search.old q }
         ensures one_more { OnOk result (IsBackwardTo flow.now self.new (q + 1) (start_of flow.now (q + 1))) }
-        ensures search { OnOk result (IsLeavingTo flow.now search.new (q + 1)) }
+        ensures search { OnOk result (IsSearchTo flow.now search.new (q + 1)) }
     {
         self.close_behind(flow, q);
         self.add_exit(flow, search, q)?;
@@ -143,9 +143,9 @@ impl Backward {
     /// What leads to the points of a flow. On the way those are found from which a return comes.
     pub(crate) fn new(alloc: Global, flow: &Flow, search: &mut Search) -> Result<Backward, NoMemory>
         requires shape { HasShape flow.now }
-        requires search { IsLeavingTo flow.now search.old 0 }
+        requires search { IsSearchTo flow.now search.old 0 }
         ensures backward { IfOk result (IsBackward flow.now) }
-        ensures search { OnOk result (IsLeavingTo flow.now search.new (points_of flow.now)) }
+        ensures search { OnOk result (IsSearchTo flow.now search.new (points_of flow.now)) }
     {
         let mut backward = Backward::empty(alloc, flow)?;
         let mut at = end_of_plain(flow, 0);

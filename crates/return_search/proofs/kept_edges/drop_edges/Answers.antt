@@ -12,7 +12,7 @@ use Rattle.return_search.specs.Search.{target_returns}
 use Rattle.return_search.specs.Stays.{AreKept, stays}
 use Rattle.return_search.proofs.Flagging.{flagged_none, flagged_other, flagged_usual}
 use Rattle.return_search.proofs.Ranges.{starts_ascend}
-use Rattle.return_search.proofs.Dropping.{first_kept, points_kept, same_behind}
+use Rattle.return_search.proofs.Dropping.{first_kept, points_kept, same_behind, start_at}
 use Rattle.return_search.proofs.kept_edges.drop_edges.Goals as goal
 
 pub points-init : goal.points-init
@@ -51,8 +51,7 @@ keep_others-own-requires-clause-inside c =
     let at : ℕ = c.points.at in
     let inside : at < points_of flow = omega (arith, c.points-test.true, c.len-points.ensures) in
     let to = c.index-in-points.result.now in
-    let room : at + 1 < length c.points.flow.starts.items = omega (arith, c.points.invariant.long_starts, shape.starts, inside) in
-    let ends_at : to ≡ start_of flow (at + 1) = get_or_read c.points.flow.starts.items (at + 1) to room c.index-in-points.ensures 0 ∙ c.points.invariant.starts (at + 1) (omega arith) in
+    let ends_at : to ≡ start_of flow (at + 1) = start_at flow shape c.points.flow.starts.items at (at + 1) to c.points.invariant.long_starts c.points.invariant.starts (omega arith) (omega (arith, inside)) c.index-in-points.ensures in
     omega (arith, ends_at, starts_ascend flow shape (at + 1) (points_of flow) (omega (arith, inside)) (omega arith), shape.last, c.points.invariant.long)
 
 pub move_edges-requires-clause-ordered : goal.move_edges-requires-clause-ordered
@@ -65,8 +64,8 @@ move_edges-requires-clause-ordered c =
     let last : next ≤ points_of flow = omega (arith, c.end_of_returning-next.ensures.within, c.deref-in-points.ensures.len, ap (λ (v : Vec Exit Global). length v.items) c.points.invariant.exits) in
     let to = c.index-in-points.result.now in
     let until = c.index-in-points-2.result.now in
-    let ends_at : to ≡ start_of flow (at + 1) = get_or_read c.points.flow.starts.items (at + 1) to (omega (arith, c.points.invariant.long_starts, shape.starts, later, last)) c.index-in-points.ensures 0 ∙ c.points.invariant.starts (at + 1) (omega arith) in
-    let until_at : until ≡ start_of flow next = get_or_read c.points.flow.starts.items next until (omega (arith, c.points.invariant.long_starts, shape.starts, last)) c.index-in-points-2.ensures 0 ∙ c.points.invariant.starts next (omega (arith, later)) in
+    let ends_at : to ≡ start_of flow (at + 1) = start_at flow shape c.points.flow.starts.items at (at + 1) to c.points.invariant.long_starts c.points.invariant.starts (omega arith) (omega (arith, later, last)) c.index-in-points.ensures in
+    let until_at : until ≡ start_of flow next = start_at flow shape c.points.flow.starts.items at next until c.points.invariant.long_starts c.points.invariant.starts (omega (arith, later)) last c.index-in-points-2.ensures in
     omega (arith, ends_at, until_at, starts_ascend flow shape (at + 1) next later last)
 
 pub move_edges-requires-clause-inside : goal.move_edges-requires-clause-inside
@@ -77,7 +76,7 @@ move_edges-requires-clause-inside c =
     let later : c.points.at + 1 ≤ next = c.end_of_returning-next.ensures.from in
     let last : next ≤ points_of flow = omega (arith, c.end_of_returning-next.ensures.within, c.deref-in-points.ensures.len, ap (λ (v : Vec Exit Global). length v.items) c.points.invariant.exits) in
     let until = c.index-in-points-2.result.now in
-    let until_at : until ≡ start_of flow next = get_or_read c.points.flow.starts.items next until (omega (arith, c.points.invariant.long_starts, shape.starts, last)) c.index-in-points-2.ensures 0 ∙ c.points.invariant.starts next (omega (arith, later)) in
+    let until_at : until ≡ start_of flow next = start_at flow shape c.points.flow.starts.items c.points.at next until c.points.invariant.long_starts c.points.invariant.starts (omega (arith, later)) last c.index-in-points-2.ensures in
     omega (arith, until_at, starts_ascend flow shape next (points_of flow) last (omega arith), shape.last, c.keep_others-own.ensures.long, c.points.invariant.long)
 
 pub lessen_starts-requires-clause-enough : goal.lessen_starts-requires-clause-enough
@@ -87,7 +86,7 @@ lessen_starts-requires-clause-enough c = λ k from l.
     let at : ℕ = c.points.at in
     let last : c.end_of_returning-next.result ≤ points_of flow = omega (arith, c.end_of_returning-next.ensures.within, c.deref-in-points.ensures.len, ap (λ (v : Vec Exit Global). length v.items) c.points.invariant.exits) in
     let to = c.index-in-points.result.now in
-    let ends_at : to ≡ start_of flow (at + 1) = get_or_read c.points.flow.starts.items (at + 1) to (omega (arith, c.points.invariant.long_starts, shape.starts, from, l, last)) c.index-in-points.ensures 0 ∙ c.points.invariant.starts (at + 1) (omega arith) in
+    let ends_at : to ≡ start_of flow (at + 1) = start_at flow shape c.points.flow.starts.items at (at + 1) to c.points.invariant.long_starts c.points.invariant.starts (omega arith) (omega (arith, from, l, last)) c.index-in-points.ensures in
     omega (arith, ends_at, starts_ascend flow shape (at + 1) k from (omega (arith, l, last)), c.points.invariant.starts k (omega (arith, from)))
 
 pub overflow_sub-kept : goal.overflow_sub-kept
@@ -100,8 +99,8 @@ overflow_sub-kept c =
     let last : next ≤ points_of flow = omega (arith, c.end_of_returning-next.ensures.within, c.deref-in-points.ensures.len, ap (λ (v : Vec Exit Global). length v.items) c.points.invariant.exits) in
     let to = c.index-in-points.result.now in
     let until = c.index-in-points-2.result.now in
-    let ends_at : to ≡ start_of flow (at + 1) = get_or_read c.points.flow.starts.items (at + 1) to (omega (arith, c.points.invariant.long_starts, shape.starts, later, last)) c.index-in-points.ensures 0 ∙ c.points.invariant.starts (at + 1) (omega arith) in
-    let until_at : until ≡ start_of flow next = get_or_read c.points.flow.starts.items next until (omega (arith, c.points.invariant.long_starts, shape.starts, last)) c.index-in-points-2.ensures 0 ∙ c.points.invariant.starts next (omega (arith, later)) in
+    let ends_at : to ≡ start_of flow (at + 1) = start_at flow shape c.points.flow.starts.items at (at + 1) to c.points.invariant.long_starts c.points.invariant.starts (omega arith) (omega (arith, later, last)) c.index-in-points.ensures in
+    let until_at : until ≡ start_of flow next = start_at flow shape c.points.flow.starts.items at next until c.points.invariant.long_starts c.points.invariant.starts (omega (arith, later)) last c.index-in-points-2.ensures in
     omega (arith, ends_at, until_at, starts_ascend flow shape (at + 1) next later last)
 
 pub points-preserved : goal.points-preserved
@@ -125,8 +124,8 @@ points-preserved c =
     let stops : target_returns known (exit_at flow at) ≡ false = was.stops inside in
     let to = c.index-in-points.result.now in
     let until = c.index-in-points-2.result.now in
-    let ends_at : to ≡ start_of flow (at + 1) = get_or_read s.starts.items (at + 1) to (omega (arith, was.long_starts, shape.starts, later, last)) c.index-in-points.ensures 0 ∙ was.starts (at + 1) (omega arith) in
-    let until_at : until ≡ start_of flow next = get_or_read s.starts.items next until (omega (arith, was.long_starts, shape.starts, last)) c.index-in-points-2.ensures 0 ∙ was.starts next (omega (arith, later)) in
+    let ends_at : to ≡ start_of flow (at + 1) = start_at flow shape s.starts.items at (at + 1) to was.long_starts was.starts (omega arith) (omega (arith, later, last)) c.index-in-points.ensures in
+    let until_at : until ≡ start_of flow next = start_at flow shape s.starts.items at next until was.long_starts was.starts (omega (arith, later)) last c.index-in-points-2.ensures in
     let in_edges : to ≤ length s.edges.items = omega (arith, ends_at, starts_ascend flow shape (at + 1) (points_of flow) (omega (arith, inside)) (omega arith), shape.last, was.long) in
     let ordered : c.points.from ≤ to = omega (arith, ends_at, was.from, shape.ascending at inside) in
     let behind : to ≤ until = omega (arith, ends_at, until_at, starts_ascend flow shape (at + 1) next later last) in
