@@ -46,16 +46,14 @@ fn find_leaving(flow: &Flow, search: &mut Search, q: u32)
 }
 
 impl Backward {
-    /// Nothing leads anywhere. There is room for the edges that are more than one a point, since about as many don't lead right behind
-    /// their points.
+    /// Nothing leads anywhere.
     fn empty(alloc: Global, flow: &Flow) -> Result<Backward, NoMemory>
         requires { HasShape flow.now }
         ensures { IfOk result (λ backward. IsBackwardTo flow.now backward 0 0) }
     {
-        let more = flow.edges.len().saturating_sub(flow.exits.len());
         Ok(Backward {
-            leads: Vec::with_capacity(alloc, more)?,
-            chains: Chains::new(alloc, flow.exits.len() as u32, more)?,
+            leads: Vec::new(alloc),
+            chains: Chains::new(alloc, flow.exits.len() as u32)?,
         })
     }
 

@@ -109,7 +109,7 @@ pub(crate) fn steps_on(flow: &Flow, q: u32) -> bool
 
 /// The first point from one on that isn't plain, or the end of the points. A plain point passes, and has a single edge, which
 /// leads to the point right behind it. Most are such.
-// The parts of the flow are read once, and the loop keeps them in registers. No sum that wraps is equal to a start behind.
+// The parts of the flow are read once, and the loop keeps them in registers.
 #[inline(never)]
 pub(crate) fn end_of_plain(flow: &Flow, from: u32) -> u32
     requires shape { HasShape flow.now }
@@ -122,10 +122,10 @@ pub(crate) fn end_of_plain(flow: &Flow, from: u32) -> u32
     let edges: &[Edge] = &flow.edges;
     let exits: &[Exit] = &flow.exits;
     let mut q = from as usize;
-    let mut first = starts[q];
+    let mut first = starts[q] as usize;
     'plain: while q < exits.len()
-        && starts[q + 1] == first.wrapping_add(1)
-        && edges[first as usize].to == (q + 1) as u32
+        && starts[q + 1] as usize == first + 1
+        && edges[first].to == (q + 1) as u32
         && matches!(exits[q], Exit::Passes)
     {
         q += 1;

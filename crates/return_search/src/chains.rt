@@ -22,14 +22,14 @@ pub(crate) struct Chains {
 }
 
 impl Chains {
-    /// No number has a key yet, and all keys are open. There is room for so many numbers.
-    pub(crate) fn new(alloc: Global, keys: u32, room: usize) -> Result<Chains, NoMemory>
+    /// No number has a key yet, and all keys are open.
+    pub(crate) fn new(alloc: Global, keys: u32) -> Result<Chains, NoMemory>
         ensures none { IfOk result (λ chains. AreChains chains.heads.items chains.links.items []) }
         ensures heads { IfOk result (λ chains. length chains.heads.items ≡ keys) }
     {
         Ok(Chains {
             heads: vec![in alloc; OPEN; keys as usize]?,
-            links: Vec::with_capacity(alloc, room)?,
+            links: Vec::new(alloc),
         })
     }
 

@@ -43,6 +43,8 @@ pub struct Returns {
 /// Each point is looked at once and each edge a few times. The edges that stay take the place of the flow's. Beside the
 /// result it takes some 10 bytes a point, and 16 for each call of an entry and each edge that doesn't lead right behind its
 /// point, and gives them back.
+// Apart, so that its loops and its callers' share no registers.
+#[inline(never)]
 pub fn find_returns(alloc: Global, flow: Flow) -> Result<Returns, NoMemory>
     requires { HasShape flow }
     ensures shape { IfOk result (HaveShape (points_of flow)) }
