@@ -110,7 +110,7 @@ pub(crate) fn steps_on(flow: &Flow, q: u32) -> bool
 /// The first point from one on that isn't plain, or the end of the points. A plain point passes, and has a single edge, which
 /// leads to the point right behind it. Most are such.
 // The parts of the flow are read once, and the loop keeps them in registers.
-#[inline(never)]
+#[inline(always)]
 pub(crate) fn end_of_plain(flow: &Flow, from: u32) -> u32
     requires shape { HasShape flow.now }
     requires from { from ≤ points_of flow.now }

@@ -56,7 +56,7 @@ fn move_edges(edges: &mut Vec<Edge>, kept: usize, from: usize, to: usize)
     edges.copy_within(from..to, kept);
 }
 
-/// Takes as much off the numbers from one place to another.
+/// Takes `by` off each number from one place to another.
 #[inline(never)]
 fn lessen_each(numbers: &mut [u32], from: usize, to: usize, by: u32)
     requires ordered { from ≤ to }
@@ -72,7 +72,7 @@ fn lessen_each(numbers: &mut [u32], from: usize, to: usize, by: u32)
     }
 }
 
-/// Takes as much off the starts from one number to another.
+/// Takes `by` off each start from one number to another.
 fn lessen_starts(starts: &mut Vec<u32>, from: usize, to: usize, by: u32)
     requires ordered { from ≤ to }
     requires inside { to ≤ length starts.old.items }
