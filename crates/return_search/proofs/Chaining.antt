@@ -2,7 +2,7 @@
 use Rattle.std.proofs.Common.{◌≡◌, ◌≢◌, ℕ, ◌+◌, ◌<◌, ◌≤◌, ◌⊎◌, inl, inr, Bool, cond, List, [], ◌∷◌, ◌++◌, Option, Some, None, replicate, length, get_or, set, refl, sym, ap, ◌∙◌, subst, arith, get_or-set_same, get_or-set_other, length-set}
 use Rattle.std.proofs.lemmas.List.{get_or_append_left, get_or_push, get_or-replicate, length_push, length-replicate}
 use Rattle.std.proofs.lemmas.Bool.{cases_eq, lt-ltb, le-ltb}
-use Rattle.return_search.specs.Chained.{IsLastBelow, linked, no_number, AreChains}
+use Rattle.return_search.specs.Chained.{IsLastBelow, IsOpen, OpensNone, linked, no_number, AreChains}
 
 -- what is below a place stays as it is when more is put behind
 below_push : (keys : List (Option ℕ)) (y : Option ℕ) (key n : ℕ) (o : Option ℕ) → n ≤ length keys → IsLastBelow keys key n o → IsLastBelow (keys ++ y ∷ []) key n o
@@ -54,12 +54,38 @@ linked_head keys key n head few h = elim (split_at head no_number) [
 ]
 
 -- no number yet
-pub chains_none : (n : ℕ) → AreChains (replicate n no_number) [] []
+abbrev open_head : ℕ
+open_head = 4294967295
+
+pub chains_none : (n : ℕ) → AreChains (replicate n 4294967295) [] []
 chains_none n = record {
   long = refl;
-  last = λ key l. subst (IsLastBelow [] key 0) (sym (ap (linked no_number) (get_or-replicate n key no_number 0 (omega (arith, l, length-replicate n no_number))) ∙ linked_itself no_number no_number (omega arith))) (λ j h. absurd (omega arith));
+  last = λ key l. subst (IsLastBelow [] key 0) (sym (ap (linked no_number) (get_or-replicate n key 4294967295 0 (omega (arith, l, length-replicate n open_head))) ∙ linked_itself no_number 4294967295 (omega arith))) (λ j h. absurd (omega arith));
   before = λ m key l. absurd (omega arith);
 }
+
+-- no number has an open key
+pub last_open : (heads links : List ℕ) (keys : List (Option ℕ)) (key : ℕ) → AreChains heads links keys → key < length heads → IsOpen heads key → IsLastBelow keys key (length keys) None
+last_open heads links keys key are inside is =
+    subst (IsLastBelow keys key (length keys)) (ap (linked no_number) is ∙ linked_itself no_number 4294967295 (omega arith)) (are.last key inside)
+
+-- an open key is closed
+pub chains_close : (heads links : List ℕ) (keys : List (Option ℕ)) (key : ℕ) → IsOpen heads key → key < length heads → AreChains heads links keys → AreChains (set heads key no_number) links keys
+chains_close heads links keys key is inside are = record { long = are.long; last = last; before = are.before }
+  where
+    last : (other : ℕ) → other < length (set heads key no_number) → IsLastBelow keys other (length keys) (linked no_number (get_or (set heads key no_number) other 0))
+    last other l = elim (cases_eq other key) [
+      | inl same ↦ subst (λ (k : ℕ). IsLastBelow keys k (length keys) (linked no_number (get_or (set heads key no_number) k 0))) (sym same)
+          (subst (IsLastBelow keys key (length keys)) (sym (ap (linked no_number) (get_or-set_same heads key no_number 0 inside) ∙ linked_itself no_number no_number (omega arith))) (last_open heads links keys key are inside is))
+      | inr different ↦ subst (IsLastBelow keys other (length keys)) (sym (ap (linked no_number) (get_or-set_other heads key other no_number 0 different))) (are.last other (omega (arith, simp length-set at l)))
+    ]
+
+-- a head is never set to that of open keys
+pub opens_none : (heads : List ℕ) (key head : ℕ) → head ≤ no_number → key < length heads → OpensNone heads (set heads key head)
+opens_none heads key head few inside other is = elim (cases_eq other key) [
+  | inl same ↦ absurd (let now : get_or (set heads key head) other 0 ≡ head = ap (λ (k : ℕ). get_or (set heads key head) k 0) same ∙ get_or-set_same heads key head 0 inside in omega (arith, now, is, few))
+  | inr different ↦ sym (get_or-set_other heads key other head 0 different) ∙ is
+]
 
 module _ (heads : List ℕ) (links : List ℕ) (keys : List (Option ℕ)) (are : AreChains heads links keys) (y : Option ℕ) (link : ℕ) where
   before_push : ((key : ℕ) → y ≡ Some key → IsLastBelow keys key (length keys) (linked (length keys) link)) → (n key : ℕ) → n < length (keys ++ y ∷ []) → get_or (keys ++ y ∷ []) n None ≡ Some key → IsLastBelow (keys ++ y ∷ []) key n (linked n (get_or (links ++ link ∷ []) n 0))

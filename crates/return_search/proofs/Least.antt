@@ -316,11 +316,11 @@ module _ (p : Program) (flow : Flow) (tells : TellsFlow p flow) (shape : HasShap
   pub comes_back_is : (targets : List Bool) (q : ℕ) → IsPoint p q → q < length targets → is_set targets q ≡ target_returns known (exit_at flow q) → slice_get targets q ≡ Some (target_may_return p (p.role q))
   comes_back_is targets q point inside e = slice_get-get_or targets q false inside ∙ ap Some (e ∙ target_is q point)
 
-  pub edges_are : (targets : List Bool) (q : ℕ) → IsPoint p q → is_set targets q ≡ target_returns known (exit_at flow q) → filter (λ e. stays (is_set targets q) e.kind) (edges_from flow q) ≡ filter (λ e. can_go p q e.kind) (edges_from flow q)
-  edges_are targets q point e = filter_agree (λ f. stays (is_set targets q) f.kind) (λ f. can_go p q f.kind) (λ f. by_kind f.kind) (edges_from flow q)
+  pub edges_are : (q : ℕ) → IsPoint p q → filter (λ e. stays (target_returns known (exit_at flow q)) e.kind) (edges_from flow q) ≡ filter (λ e. can_go p q e.kind) (edges_from flow q)
+  edges_are q point = filter_agree (λ f. stays (target_returns known (exit_at flow q)) f.kind) (λ f. can_go p q f.kind) (λ f. by_kind f.kind) (edges_from flow q)
     where
-      by_kind : (k : EdgeKind) → stays (is_set targets q) k ≡ can_go p q k
-      by_kind Next = e ∙ target_is q point
+      by_kind : (k : EdgeKind) → stays (target_returns known (exit_at flow q)) k ≡ can_go p q k
+      by_kind Next = target_is q point
       by_kind Taken = refl
       by_kind Fixup = refl
       by_kind Table = refl

@@ -8,3 +8,4 @@ pub mod Passing
 pub mod Walks
 pub mod Running
 pub mod Leading
+pub mod Flagging

@@ -1,7 +1,8 @@
 -- Parts of lists.
 use Rattle.std.proofs.Common.{◌≡◌, ℕ, zero, suc, ◌+◌, ◌-◌, ◌<◌, ◌≤◌, ◌⊎◌, inl, inr, List, ◌++◌, Contains, length, get_or, take, drop, refl, sym, ap, ◌∙◌, subst, arith, length-append, length-drop, add-one}
 use Rattle.std.specs.Prelude.{slice_range}
-use Rattle.std.proofs.lemmas.List.{get_or-take, get_or-drop, get_or_default, length-take-le, drop-append-le, take-append-le, take_all, drop_at}
+use Rattle.std.proofs.Math.Seq.{drop-append-add}
+use Rattle.std.proofs.lemmas.List.{drop-drop, drop-take, take-take, get_or-take, get_or-drop, get_or_default, length-take-le, drop-append-le, take-append-le, take_all, drop_at}
 use Rattle.return_search.specs.declared.searched_flow.Flow.{Flow}
 use Rattle.return_search.specs.Told.{start_of}
 use Rattle.return_search.specs.Shape.{HasShape, points_of}
@@ -33,6 +34,21 @@ range_push xs ys a b ordered within =
 pub range_new : {X : Type 0} (xs ys : List X) → slice_range (xs ++ ys) (length xs) (length (xs ++ ys)) ≡ ys
 range_new xs ys =
     ap (take (length (xs ++ ys) - length xs)) (drop_at xs ys (length xs) refl) ∙ take_all (length (xs ++ ys) - length xs) ys (omega (arith, length-append xs ys))
+
+-- a part of what is put behind, and of a part
+pub range_behind : {X : Type 0} (xs ys : List X) (a b : ℕ) → slice_range (xs ++ ys) (length xs + a) (length xs + b) ≡ slice_range ys a b
+range_behind xs ys a b =
+    let size : length xs + b - (length xs + a) ≡ b - a = omega arith in
+    ap (take (length xs + b - (length xs + a))) (drop-append-add xs ys a) ∙ ap (λ (n : ℕ). take n (drop a ys)) size
+
+pub range_of_range : {X : Type 0} (xs : List X) (a b i j : ℕ) → i ≤ j → a + j ≤ b → slice_range (slice_range xs a b) i j ≡ slice_range xs (a + i) (a + j)
+range_of_range {X = X} xs a b i j ordered within =
+    let size : b - a ≡ i + (b - a - i) = omega arith in
+    let short : j - i ≡ a + j - (a + i) = omega arith in
+    ap (λ (n : ℕ). take (j - i) (drop i (take n (drop a xs)))) size
+    ∙ (ap (take (j - i)) (drop-take i (b - a - i) (drop a xs))
+    ∙ (take-take (j - i) (b - a - i) (drop i (drop a xs)) (omega arith)
+    ∙ (ap (take (j - i)) (drop-drop i a xs) ∙ ap (λ (n : ℕ). take n (drop (a + i) xs)) short)))
 
 -- where edges begin ascends
 pub starts_ascend : (flow : Flow) → HasShape flow → (q n : ℕ) → q ≤ n → n ≤ points_of flow → start_of flow q ≤ start_of flow n

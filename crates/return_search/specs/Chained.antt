@@ -10,9 +10,17 @@ IsLastBelow keys key n (Some i) = (i < n) × (slice_index_or keys i None ≡ Som
 abbrev pub linked : ℕ → ℕ → Option ℕ
 linked n link = if nat_lt link n then Some link else None
 
--- the head of a key that no number has; a head says what a link of this would
+-- no number is as great as this; a head says what a link of this would
 abbrev pub no_number : ℕ
-no_number = 4294967295
+no_number = 4294967294
+
+-- the key's head is that of open keys, which no number has
+abbrev pub IsOpen : List ℕ → ℕ → Type 0
+IsOpen heads key = slice_index heads key ≡ 4294967295
+
+-- no more keys are open than before
+abbrev pub OpensNone : List ℕ → List ℕ → Type 0
+OpensNone before after = (key : ℕ) → IsOpen after key → IsOpen before key
 
 -- The heads by key, and the links by number, where the numbers have these keys.
 pub record AreChains (heads : List ℕ) (links : List ℕ) (keys : List (Option ℕ)) : Type 0 where

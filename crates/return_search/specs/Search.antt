@@ -11,7 +11,7 @@ use Rattle.return_search.specs.declared.searched_flow.Flow.{Flow}
 use Rattle.return_search.specs.declared.return_search.Search.{Search}
 use Rattle.return_search.specs.Told.{TellsFlow, callee_at, exit_at, dead_end_at}
 use Rattle.return_search.specs.Shape.{points_of}
-use Rattle.return_search.specs.Backward.{edge_at, IsEdgeOf}
+use Rattle.return_search.specs.Backward.{edge_at, IsEdgeOf, StepsOn}
 
 -- whether a list of tests has one that holds there
 abbrev pub is_set : List Bool → ℕ → Bool
@@ -24,6 +24,10 @@ target_returns known (Calls entry) = is_set known entry
 target_returns known CallsOut = true
 target_returns known CallsNever = false
 target_returns known Passes = true
+
+-- the entries that are called are below a number
+abbrev pub CallBelow : List Exit → ℕ → Type 0
+CallBelow exits count = (q entry : ℕ) → slice_index_or exits q Passes ≡ Calls entry → entry < count
 
 -- whether a point is a call
 abbrev pub is_calling : Exit → Bool
@@ -104,27 +108,19 @@ pub record FindsMore (flow : Flow) (before after : Search) : Type 0 where
 abbrev pub IsCarriedBy : Flow → List Bool → List Bool → ℕ → ℕ → Type 0
 IsCarriedBy flow found known q i = IsEdgeOf flow q i × (is_set found (edge_at flow i).to ≡ true) × (carries flow known q (edge_at flow i).kind ≡ true)
 
--- nothing leads to the point but the point right before it, and no call names it
-pub record IsLedToFromBefore (flow : Flow) (x : ℕ) : Type 0 where
+-- nothing leads to the point but the point right before it, which steps on to it, and no call names it
+pub record IsSteppedTo (flow : Flow) (x : ℕ) : Type 0 where
   pub edges : (q i : ℕ) → IsEdgeOf flow q i → (edge_at flow i).to ≡ x → q + 1 ≡ x
   pub calls : (q : ℕ) → exit_at flow q ≡ Calls (callee_at flow x) → ⊥
-
--- a return is carried to the point, which isn't found yet
-pub record IsNewlyCarried (flow : Flow) (s : Search) (q : ℕ) : Type 0 where
-  pub new : is_set s.found.items q ≡ false
-  pub edge : ℕ
-  pub carried : IsCarriedBy flow s.found.items s.known.items q edge
-
--- the first edge of the point is a Next to the point right behind it, over which any return is carried to it
-pub record StepsOn (flow : Flow) (q : ℕ) : Type 0 where
-  pub edge : ℕ
-  pub of : IsEdgeOf flow q edge
-  pub behind : (edge_at flow edge).to ≡ q + 1
-  pub next : (edge_at flow edge).kind ≡ Next
-  pub passes : exit_at flow q ≡ Passes
+  pub steps : (q : ℕ) → q + 1 ≡ x → StepsOn flow q
 
 -- More is found, and what is listed stays.
 pub record RunsOn (before after : Search) : Type 0 where
   pub found : (q : ℕ) → is_set before.found.items q ≡ true → is_set after.found.items q ≡ true
   pub waiting : after.waiting.items ≡ before.waiting.items
   pub more : count_by (λ b. b) before.found.items ≤ count_by (λ b. b) after.found.items
+
+-- a search that has found those of the first n points from which a return comes, and that has passed on what isn't listed
+pub record IsSearchTo (flow : Flow) (s : Search) (n : ℕ) : Type 0 where
+  pub search : IsSearch flow s
+  pub leaving : FindsLeaving flow s.found.items n

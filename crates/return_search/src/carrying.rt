@@ -1,24 +1,24 @@
 //! Over which edges a return is carried back, as far as a search knows.
 
-ghost use Rattle.std.specs.Prelude.{◌≡◌, ◌+◌, ◌<◌, ◌&&◌, ℕ, true, false, IsTrue, length, slice_index, slice_index_or, slice_set};
+ghost use Rattle.std.specs.Prelude.{◌≡◌, ◌+◌, ◌<◌, ◌≤◌, ◌&&◌, ℕ, true, false, IsTrue, length, slice_index, slice_index_or, slice_set};
 ghost use Rattle.machine_defs.specs.declared.flow.EdgeKind.TheVariants.{Next};
+ghost use Rattle.return_search.specs.declared.searched_flow.Exit.TheVariants.{Passes};
 ghost use Rattle.return_search.specs.Told.{dead_end_at, exit_at};
 ghost use Rattle.return_search.specs.Shape.{HasShape, points_of};
-ghost use Rattle.return_search.specs.Backward.{IsEdgeOf, edge_at};
-ghost use Rattle.return_search.specs.Search.{AreListed, IsNewlyCarried, StepsOn, carries as carries_back, is_set, target_returns as does_target_return, is_calling};
+ghost use Rattle.return_search.specs.Backward.{IsEdgeOf, IsPlain, PassesOn, StepsOn, edge_at};
+ghost use Rattle.return_search.specs.Search.{AreListed, CallBelow, carries as carries_back, is_set, target_returns as does_target_return, is_calling};
 
 use crate::return_search::Search;
 use crate::searched_flow::{Exit, Flow};
-use machine_defs::EdgeKind;
+use machine_defs::{Edge, EdgeKind};
 
 /// Whether the target of a point's call returns, as far as it is known. What isn't a call passes.
-pub(crate) fn target_returns(flow: &Flow, known: &[bool], q: u32) -> bool
-    requires shape { HasShape flow.now }
-    requires known { length known.now ≡ points_of flow.now }
-    requires point { q < points_of flow.now }
-    ensures { result ≡ does_target_return known.now (exit_at flow.now q) }
+pub(crate) fn target_returns(exits: &[Exit], known: &[bool], q: usize) -> bool
+    requires known { CallBelow exits.now (length known.now) }
+    requires point { q < length exits.now }
+    ensures { result ≡ does_target_return known.now (slice_index_or exits.now q Passes) }
 {
-    match flow.exits[q as usize] {
+    match exits[q] {
         Exit::Calls { entry } => known[entry as usize],
         Exit::CallsNever => false,
         Exit::Leaves | Exit::CallsOut | Exit::Passes => true,
@@ -47,7 +47,7 @@ fn carries_next(flow: &Flow, known: &[bool], q: u32) -> bool
     if let Exit::Passes = flow.exits[q as usize] {
         return true;
     }
-    target_returns(flow, known, q) && !is_dead_call(flow, q)
+    target_returns(&flow.exits, known, q as usize) && !is_dead_call(flow, q)
 }
 
 /// Whether a return that may come from the end of an edge of this kind may come from its point too.
@@ -80,8 +80,18 @@ pub(crate) fn is_carried_to(flow: &Flow, search: &Search, q: u32) -> bool
     false
 }
 
-/// Whether a point has first of all a Next to the point right behind it, over which any return is carried to it. Most have.
-fn steps_on(flow: &Flow, q: u32) -> bool
+/// Whether a point passes, or is a call of code outside that execution passes.
+fn passes_on(flow: &Flow, q: u32) -> bool
+    requires shape { HasShape flow.now }
+    requires point { q < points_of flow.now }
+    ensures { IsTrue result → PassesOn flow.now q }
+{
+    let exit = flow.exits[q as usize];
+    matches!(exit, Exit::Passes) || (matches!(exit, Exit::CallsOut) && !flow.dead_ends[q as usize])
+}
+
+/// Whether a point's first edge leads to the point right behind it, and any return is carried over it.
+pub(crate) fn steps_on(flow: &Flow, q: u32) -> bool
     requires shape { HasShape flow.now }
     requires point { q < points_of flow.now }
     ensures { IsTrue result → StepsOn flow.now q }
@@ -94,25 +104,32 @@ fn steps_on(flow: &Flow, q: u32) -> bool
     if flow.edges[first].to != behind {
         return false;
     }
-    if !matches!(flow.edges[first].kind, EdgeKind::Next) {
-        return false;
-    }
-    matches!(flow.exits[q as usize], Exit::Passes)
+    passes_on(flow, q)
 }
 
-/// Whether a return is carried to a point that isn't found yet, where the one right behind it is.
-pub(crate) fn is_newly_carried(flow: &Flow, search: &Search, q: u32) -> bool
+/// The first point from one on that isn't plain, or the end of the points. A plain point passes, and has a single edge, which
+/// leads to the point right behind it. Most are such.
+// The parts of the flow are read once, and the loop keeps them in registers.
+#[inline(always)]
+pub(crate) fn end_of_plain(flow: &Flow, from: u32) -> u32
     requires shape { HasShape flow.now }
-    requires listed { AreListed flow.now search.now }
-    requires point { q < points_of flow.now }
-    requires behind { is_set search.now.found.items (q + 1) ≡ true }
-    ensures { IsTrue result → IsNewlyCarried flow.now search.now q }
+    requires from { from ≤ points_of flow.now }
+    ensures from { from ≤ result }
+    ensures within { result ≤ points_of flow.now }
+    ensures plain { (q : ℕ) → from ≤ q → q < result → IsPlain flow.now q }
 {
-    if search.found[q as usize] {
-        return false;
+    let starts: &[u32] = &flow.starts;
+    let edges: &[Edge] = &flow.edges;
+    let exits: &[Exit] = &flow.exits;
+    let mut q = from as usize;
+    let mut first = starts[q] as usize;
+    'plain: while q < exits.len()
+        && starts[q + 1] as usize == first + 1
+        && edges[first].to == (q + 1) as u32
+        && matches!(exits[q], Exit::Passes)
+    {
+        q += 1;
+        first += 1;
     }
-    if steps_on(flow, q) {
-        return true;
-    }
-    is_carried_to(flow, search, q)
+    q as u32
 }

@@ -1,17 +1,14 @@
 //! From which points of a program a return may come.
 
-ghost use Rattle.std.specs.Prelude.{◌≡◌, ◌+◌, ◌<◌, ℕ, IfOk, length, slice_index_or, true};
+ghost use Rattle.std.specs.Prelude.{◌≡◌, IfOk};
 ghost use Rattle.machine_defs.specs.Program.{Program};
 ghost use Rattle.machine_defs.specs.IsProgram.{IsProgram};
-ghost use Rattle.return_search.specs.Told.{TellsFlow, TellsReturns, exit_at};
+ghost use Rattle.return_search.specs.Told.{TellsFlow, TellsReturns};
 ghost use Rattle.return_search.specs.Shape.{HasShape, HaveShape, points_of};
-ghost use Rattle.return_search.specs.Flagged.{AreFlagged};
-ghost use Rattle.return_search.specs.Search.{is_set, target_returns as does_target_return};
 
-use crate::carrying::target_returns;
 use crate::kept_edges::drop_edges;
 use crate::return_search::Search;
-use crate::searched_flow::{Exit, Flow};
+use crate::searched_flow::Flow;
 use crate::spreading::spread;
 use machine_defs::Edge;
 use ot_base::NoMemory;
@@ -37,36 +34,6 @@ pub struct Returns {
     pub entered: Vec<Option<u32>>,
 }
 
-/// Clears the flag of a point, if the target of its call doesn't return. Most points pass.
-fn flag_target(flow: &Flow, known: &[bool], targets: &mut Vec<bool>, q: u32)
-    requires shape { HasShape flow.now }
-    requires known { length known.now ≡ points_of flow.now }
-    requires point { q < points_of flow.now }
-    requires so_far { AreFlagged (λ r. does_target_return known.now (exit_at flow.now r)) true targets.old.items (points_of flow.now) q }
-    ensures { AreFlagged (λ r. does_target_return known.now (exit_at flow.now r)) true targets.new.items (points_of flow.now) (q + 1) }
-{
-    if let Exit::Passes = flow.exits[q as usize] {
-        return;
-    }
-    if !target_returns(flow, known, q) {
-        targets[q as usize] = false;
-    }
-}
-
-/// Whether the target of each point's call returns, where these entries are known to return. Most do.
-fn returning_targets(alloc: Global, flow: &Flow, known: &[bool]) -> Result<Vec<bool>, NoMemory>
-    requires shape { HasShape flow.now }
-    requires known { length known.now ≡ points_of flow.now }
-    ensures len { IfOk result (λ targets. length targets.items ≡ points_of flow.now) }
-    ensures each { IfOk result (λ targets. (q : ℕ) → q < points_of flow.now → is_set targets.items q ≡ does_target_return known.now (exit_at flow.now q)) }
-{
-    let mut targets = vec![in alloc; true; flow.exits.len()]?;
-    for q in 0..flow.exits.len() as u32 {
-        flag_target(flow, known, &mut targets, q);
-    }
-    Ok(targets)
-}
-
 /// Finds from which points of a program a return may come, backwards over its edges, and drops the Next of each call that
 /// can't come back.
 ///
@@ -76,6 +43,8 @@ fn returning_targets(alloc: Global, flow: &Flow, known: &[bool]) -> Result<Vec<b
 /// Each point is looked at once and each edge a few times. The edges that stay take the place of the flow's. Beside the
 /// result it takes some 10 bytes a point, and 16 for each call of an entry and each edge that doesn't lead right behind its
 /// point, and gives them back.
+// Apart, so that its loops and its callers' share no registers.
+#[inline(never)]
 pub fn find_returns(alloc: Global, flow: Flow) -> Result<Returns, NoMemory>
     requires { HasShape flow }
     ensures shape { IfOk result (HaveShape (points_of flow)) }
@@ -84,9 +53,9 @@ pub fn find_returns(alloc: Global, flow: Flow) -> Result<Returns, NoMemory>
     ensures told { (p : Program) → TellsFlow p flow → IsProgram p → IfOk result (TellsReturns p flow) }
 {
     let Search { found, known, .. } = spread(alloc, &flow)?;
-    let comes_back = returning_targets(alloc, &flow, &known)?;
+    let mut comes_back = vec![in alloc; true; flow.exits.len()]?;
     let mut kept = flow;
-    drop_edges(&mut kept, &comes_back);
+    drop_edges(&mut kept, &known, &mut comes_back);
     let Flow {
         starts,
         edges,

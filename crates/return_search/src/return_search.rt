@@ -54,14 +54,14 @@ impl Search {
     }
 
     /// A point is found, and is not to wait.
-    pub(crate) fn mark(&mut self, q: u32)
+    pub(crate) fn mark(&mut self, q: usize)
         requires { q < length self.old.found.items }
         ensures found { self.new.found.items ≡ slice_set self.old.found.items q true }
         ensures known { self.new.known.items ≡ self.old.known.items }
         ensures waiting { self.new.waiting.items ≡ self.old.waiting.items }
         ensures room { vec_capacity self.new.waiting ≡ vec_capacity self.old.waiting }
     {
-        self.found[q as usize] = true;
+        self.found[q] = true;
     }
 
     /// Takes a point that is found and not passed on yet, if there is one: the last that was found.

@@ -1,21 +1,23 @@
 //! How returns are carried backwards over the edges of a program.
 
-ghost use Rattle.std.specs.Prelude.{◌≡◌, ◌+◌, ◌<◌, ℕ, true, false, IfOk, Contains, IsTrue, slice_index, slice_index_or, slice_set};
+ghost use Rattle.std.specs.Prelude.{◌≡◌, ◌+◌, ◌<◌, ℕ, None, true, false, IfOk, Contains, IsTrue, length, slice_index, slice_index_or, slice_set};
 ghost use Rattle.return_search.specs.declared.searched_flow.Exit.TheVariants.{Calls, Leaves};
+ghost use Rattle.return_search.specs.Chained.{IsOpen};
 ghost use Rattle.return_search.specs.Told.{exit_at};
 ghost use Rattle.return_search.specs.Shape.{HasShape, points_of};
 ghost use Rattle.return_search.specs.declared.backward.Lead.TheVariants.{Call, Edge};
 ghost use Rattle.return_search.specs.Backward.{IsBackward, IsEdgeOf, IsLead, edge_at};
-ghost use Rattle.return_search.specs.Search.{AreClosed, AreListed, AreSound, Extends, FindsAlong, FindsMore, IsCarriedBy, IsLedToFromBefore, IsSearch, IsTaken, RunsOn, carries as carries_back, is_set};
+ghost use Rattle.return_search.specs.Search.{AreClosed, AreListed, AreSound, Extends, FindsAlong, FindsMore, IsCarriedBy, IsSearch, IsTaken, RunsOn, carries as carries_back, is_set};
 
 use crate::backward::{Backward, Lead};
-use crate::carrying::{carries, is_carried_to, is_newly_carried};
+use crate::carrying::{carries, is_carried_to};
+use crate::chains::is_open;
 use crate::return_search::Search;
-use crate::searched_flow::{Exit, Flow};
+use crate::searched_flow::Flow;
 use ot_base::NoMemory;
 use std::alloc::Global;
 
-/// Finds a point, if a return is carried to it from one that is found.
+/// Finds a point, if it isn't found yet and a return is carried to it from one that is.
 fn find_carried(flow: &Flow, search: &mut Search, q: u32)
     requires shape { HasShape flow.now }
     requires listed { AreListed flow.now search.old }
@@ -24,6 +26,9 @@ fn find_carried(flow: &Flow, search: &mut Search, q: u32)
     ensures more { FindsMore flow.now search.old search.new }
     ensures found { (i : ℕ) → IsCarriedBy flow.now search.old.found.items search.old.known.items q i → is_set search.new.found.items q ≡ true }
 {
+    if search.found[q as usize] {
+        return;
+    }
     if is_carried_to(flow, search, q) {
         search.find(flow, q);
     }
@@ -161,21 +166,21 @@ fn pass_on(flow: &Flow, backward: &Backward, search: &mut Search, x: u32)
     }
 }
 
-/// Whether nothing leads to a point but the point right before it, and no call names it.
-fn is_led_to_from_before(flow: &Flow, backward: &Backward, x: u32) -> bool
-    requires shape { HasShape flow.now }
-    requires backward { IsBackward flow.now backward.now }
-    requires point { x < points_of flow.now }
-    ensures { IsTrue result → IsLedToFromBefore flow.now x }
+/// Whether nothing leads to a point but the point right before it, which steps on to it, and no call names it: control comes to
+/// it at no entry, and it is open.
+fn is_stepped_to(entered: &[Option<u32>], heads: &[u32], x: usize) -> bool
+    requires entered { x < length entered.now }
+    requires heads { x < length heads.now }
+    ensures entered { IsTrue result → slice_index_or entered.now x None ≡ None }
+    ensures opened { IsTrue result → IsOpen heads.now x }
 {
-    if flow.entered[x as usize].is_some() {
-        return false;
-    }
-    backward.chains.last(x).is_none()
+    entered[x].is_none() && is_open(heads, x)
 }
 
-/// Goes back from a point that was taken over points to which nothing else leads, as long as a return is carried on, and
-/// finds them. The last of them is taken in its place: most points are found so, and never wait.
+/// Goes back from a point that was taken, as long as nothing leads there but a step from the point before, which isn't found
+/// yet, and finds the points. The last of them is taken in its place: most points are found so, and never wait.
+// What is only read is read once, and the loop keeps it in registers.
+#[inline(never)]
 fn run_back(flow: &Flow, backward: &Backward, search: &mut Search, x: u32) -> u32
     requires shape { HasShape flow.now }
     requires backward { IsBackward flow.now backward.now }
@@ -183,52 +188,33 @@ fn run_back(flow: &Flow, backward: &Backward, search: &mut Search, x: u32) -> u3
     ensures taken { IsTaken flow.now search.new result }
     ensures on { RunsOn search.old search.new }
 {
-    let mut at = x;
-    'run: while at > 0
-        && is_led_to_from_before(flow, backward, at)
-        && is_newly_carried(flow, search, at - 1)
-    {
+    let entered: &[Option<u32>] = &flow.entered;
+    let heads = backward.chains.heads();
+    let mut at = x as usize;
+    'run: while at > 0 && !search.found[at - 1] && is_stepped_to(entered, heads, at) {
         at -= 1;
         search.mark(at);
     }
-    at
-}
-
-/// Finds a point, if a return comes from it.
-fn find_leaving(flow: &Flow, search: &mut Search, q: u32)
-    requires shape { HasShape flow.now }
-    requires listed { AreListed flow.now search.old }
-    requires sound { AreSound flow.now search.old.found.items search.old.known.items }
-    requires point { q < points_of flow.now }
-    ensures listed { AreListed flow.now search.new }
-    ensures extends { Extends search.old search.new }
-    ensures known { search.new.known.items ≡ search.old.known.items }
-    ensures sound { AreSound flow.now search.new.found.items search.new.known.items }
-    ensures leaving { exit_at flow.now q ≡ Leaves → is_set search.new.found.items q ≡ true }
-{
-    if let Exit::Leaves = flow.exits[q as usize] {
-        search.find(flow, q);
-    }
+    at as u32
 }
 
 /// Finds the points from which a return may come. Each point is passed on once, and each edge is looked at a few times.
 ///
-/// All that a point leads to is passed on before the next point from which a return comes is looked for, so that the
-/// search stays in one function for long.
+/// The points from which a return comes are found first. All that a point leads to is passed on before the next of them is
+/// taken, so that the search stays in one function for long.
+// Apart, so that its loop shares registers with nothing else.
+#[inline(never)]
 pub(crate) fn spread(alloc: Global, flow: &Flow) -> Result<Search, NoMemory>
     requires { HasShape flow.now }
     ensures listed { IfOk result (AreListed flow.now) }
     ensures sound { IfOk result (λ search. AreSound flow.now search.found.items search.known.items) }
     ensures closed { IfOk result (λ search. AreClosed flow.now search.found.items search.known.items) }
 {
-    let backward = Backward::new(alloc, flow)?;
     let mut search = Search::new(alloc, flow)?;
-    for q in 0..flow.exits.len() as u32 {
-        find_leaving(flow, &mut search, q);
-        'waiting: while let Some(x) = search.take(flow) {
-            let last = run_back(flow, &backward, &mut search, x);
-            pass_on(flow, &backward, &mut search, last);
-        }
+    let backward = Backward::new(alloc, flow, &mut search)?;
+    'waiting: while let Some(x) = search.take(flow) {
+        let last = run_back(flow, &backward, &mut search, x);
+        pass_on(flow, &backward, &mut search, last);
     }
     Ok(search)
 }

@@ -8,7 +8,7 @@ use Rattle.return_search.specs.declared.backward.Lead.{Lead}
 use Rattle.return_search.specs.declared.backward.Lead.TheVariants as lead
 use Rattle.return_search.specs.Shape.{points_of}
 use Rattle.return_search.specs.Backward.{AreLeads, edge_at}
-use Rattle.return_search.proofs.Leading.{chains_more, leads_behind, leads_edge}
+use Rattle.return_search.proofs.Leading.{chains_more, leads_behind, leads_edge, open_still}
 use Rattle.return_search.proofs.Ranges.{ends_within}
 use Rattle.return_search.proofs.backward.Backward.add_edge.Goals as goal
 
@@ -31,6 +31,7 @@ returns-then-to-behind c =
       leads = leads_behind flow c.args.self.now.leads.items (q + 1) i c.requires.so_far.leads c.requires.shape q c.requires.edge behind;
       chains = c.requires.so_far.chains;
       heads = c.requires.so_far.heads;
+      steps = c.requires.so_far.steps;
     }
 
 pub add-requires : goal.add-requires
@@ -58,4 +59,5 @@ returns c =
       leads = subst (λ (ls : List Lead). AreLeads flow ls (q + 1) (i + 1)) (sym pushed) (leads_edge flow before.leads.items (q + 1) i c.requires.so_far.leads c.requires.shape q c.requires.edge);
       chains = chains_more flow before after (lead.Edge q i) e.to (ap (λ (f : Edge). Some f.to) (sym read)) pushed c.in_ok-add.ensures.chains c.requires.so_far.chains;
       heads = c.add.ensures.heads ∙ c.requires.so_far.heads;
+      steps = open_still flow before.chains.heads.items after.chains.heads.items (q + 1) c.add.ensures.opens c.requires.so_far.steps;
     }
