@@ -1,7 +1,9 @@
 -- How states pass points, told of one after another.
-use Rattle.std.proofs.Common.{◌≡◌, ◌≢◌, ℕ, ◌+◌, ◌<◌, ◌&&◌, Bool, true, false, not, inl, inr, List, [], if◌then◌else◌, length, get_or, set, refl, sym, subst, arith}
+use Rattle.std.proofs.Common.{◌≡◌, ◌≢◌, ℕ, ◌+◌, ◌<◌, ◌&&◌, Bool, true, false, not, Option, inl, inr, List, [], None, if◌then◌else◌, length, get_or, set, refl, sym, subst, arith}
 use Rattle.std.proofs.lemmas.List.{get_or-set_same, get_or-set_other}
+use Rattle.state_defs.specs.declared.state.State.{State}
 use Rattle.machine_defs.specs.Program.{Program}
+use Rattle.machine_defs.specs.Kept.{is_at_entry, state_at}
 use Rattle.kept_states.specs.declared.passages.Passage.{Passage}
 use Rattle.kept_states.specs.Passages.{AreToldBelow, IsPassage}
 use Rattle.kept_states.proofs.Places.{same_or_not}
@@ -25,3 +27,11 @@ pub closed_gives_none : {X : Type 0} (unchecked free : Bool) (gifts : List X) �
 closed_gives_none true free gifts h = refl
 closed_gives_none false false gifts h = refl
 closed_gives_none false true gifts h = absurd (let bad : true ≡ false = h in cc)
+
+no_state : (unchecked : Bool) (state : Option State) → state ≡ None → (if unchecked then None else state) ≡ None
+no_state true state h = refl
+no_state false state h = h
+
+-- a point that has no hint, and where no control stands that comes to an entry, isn't of level 0
+pub not_first : (p : Program) (n : ℕ) → p.hint n ≡ None → is_at_entry p n ≡ false → state_at p 0 n ≡ None
+not_first p n hint entry = rw hint (rw entry (no_state (p.unchecked n) None refl))

@@ -118,17 +118,15 @@ fn leads_straight(edge: Edge, n: u32) -> bool
     }
 }
 
-/// To which points a point gives something that isn't special.
+/// Whether a point gives to the next point alone, along its one edge, which is a Next, if it isn't special.
 #[inline(always)]
-fn ordinary_giving(graph: &Graph, n: u32) -> Giving
-    requires point { n < length graph.now.parts.points.items }
-    requires first { (p : Program) → Tells p graph.now.parts → state_at p 0 n ≡ None }
-    requires meant { (p : Program) → Tells p graph.now.parts → (r : ℕ) → Means p n r → ⊥ }
-    ensures { (p : Program) → Tells p graph.now.parts → GivesSo p n result }
+pub(crate) fn gives_straight(graph: &Graph, n: u32) -> bool
+    requires { n < length graph.now.parts.points.items }
+    ensures { IsTrue result → (p : Program) → Tells p graph.now.parts → edges_of p n ≡ next_edge n ∷ [] }
 {
     match graph.only_edge(n) {
-        Some(edge) if leads_straight(edge, n) => Giving::Straight,
-        Some(_) | None => Giving::AlongEdges,
+        Some(edge) => leads_straight(edge, n),
+        None => false,
     }
 }
 
@@ -138,15 +136,17 @@ fn giving_of(graph: &Graph, n: u32) -> Giving
     ensures { (p : Program) → Tells p graph.now.parts → GivesSo p n result }
 {
     if is_special(graph, n) {
-        Giving::Special
+        return Giving::Special;
+    }
+    if gives_straight(graph, n) {
+        Giving::Straight
     } else {
-        ordinary_giving(graph, n)
+        Giving::AlongEdges
     }
 }
 
 /// How states pass a point, whatever it is, whose owner is checked or not.
-#[inline(never)]
-fn rare_passage(graph: &Graph, n: u32, is_unchecked: bool) -> Passage
+pub(crate) fn rare_passage(graph: &Graph, n: u32, is_unchecked: bool) -> Passage
     requires point { n < length graph.now.parts.points.items }
     requires unchecked { (p : Program) → Tells p graph.now.parts → is_unchecked ≡ p.unchecked n }
     ensures { (p : Program) → Tells p graph.now.parts → IsPassage p n result }
@@ -158,34 +158,15 @@ fn rare_passage(graph: &Graph, n: u32, is_unchecked: bool) -> Passage
     }
 }
 
-/// How states pass a usual point with this operation, whose owner is checked or not.
+/// How states pass a usual point with this operation, whose owner is checked or not, and which gives to such points.
 #[inline(always)]
-fn usual_passage(graph: &Graph, n: u32, op: Op, is_unchecked: bool) -> Passage
-    requires point { n < length graph.now.parts.points.items }
-    requires unchecked { (p : Program) → Tells p graph.now.parts → is_unchecked ≡ p.unchecked n }
-    requires op { (p : Program) → Tells p graph.now.parts → op ≡ (p.insn n).op }
-    requires hint { (p : Program) → Tells p graph.now.parts → p.hint n ≡ None }
-    requires first { (p : Program) → Tells p graph.now.parts → state_at p 0 n ≡ None }
-    requires meant { (p : Program) → Tells p graph.now.parts → (r : ℕ) → Means p n r → ⊥ }
-    ensures { (p : Program) → Tells p graph.now.parts → IsPassage p n result }
+pub(crate) fn usual_passage(op: Op, is_unchecked: bool, giving: Giving) -> Passage
+    ensures { (p : Program) (n : ℕ) → op ≡ (p.insn n).op → is_unchecked ≡ p.unchecked n → p.hint n ≡ None → GivesSo p n giving → IsPassage p n result }
 {
     Passage {
         is_open: !is_unchecked,
         is_neutral: is_neutral(op),
-        giving: ordinary_giving(graph, n),
-    }
-}
-
-/// How states pass a point, whose owner is checked or not.
-#[inline(always)]
-pub(crate) fn passage_of(graph: &Graph, n: u32, is_unchecked: bool) -> Passage
-    requires point { n < length graph.now.parts.points.items }
-    requires unchecked { (p : Program) → Tells p graph.now.parts → is_unchecked ≡ p.unchecked n }
-    ensures { (p : Program) → Tells p graph.now.parts → IsPassage p n result }
-{
-    match graph.usual_op(n) {
-        Some(op) => usual_passage(graph, n, op, is_unchecked),
-        None => rare_passage(graph, n, is_unchecked),
+        giving,
     }
 }
 

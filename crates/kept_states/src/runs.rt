@@ -6,7 +6,7 @@ ghost use Rattle.program_graph.specs.Tells.{Tells};
 ghost use Rattle.kept_states.specs.Passages.{AreToldBelow};
 
 use crate::alike::FEW_EDGES;
-use crate::passages::{Passage, passage_at, passage_of};
+use crate::passages::{Giving, Passage, gives_straight, passage_at, rare_passage, usual_passage};
 use machine_defs::EdgeKind;
 use ot_base::Place;
 use program_graph::Graph;
@@ -83,9 +83,29 @@ fn is_unchecked_as(graph: &Graph, n: u32, other: u32, is_unchecked: bool) -> boo
     }
 }
 
-/// Tells how states pass a point of such a run, whose first point is known to be checked or not, and whether they go from it
-/// to code of another owner. A point that gives to the next one alone isn't asked: that one is of the run too, unless the
-/// run ends there.
+/// Tells how states pass a point, whatever it is, whose owner is checked or not, and whether they go from it to code of another
+/// owner.
+#[inline(never)]
+fn tell_rare(
+    graph: &Graph,
+    passages: &mut Vec<Passage>,
+    n: u32,
+    from: u32,
+    is_unchecked: bool,
+) -> bool
+    requires point { n < length graph.now.parts.points.items }
+    requires unchecked { (p : Program) → Tells p graph.now.parts → is_unchecked ≡ p.unchecked n }
+    requires passages { length passages.old.items ≡ length graph.now.parts.points.items }
+    ensures passages { length passages.new.items ≡ length passages.old.items }
+    ensures told { (p : Program) → Tells p graph.now.parts → AreToldBelow p passages.old.items n → AreToldBelow p passages.new.items (n + 1) }
+{
+    let passage = rare_passage(graph, n, is_unchecked);
+    passages[n as usize] = passage;
+    !passage.is_straight() && leads_away(graph, n, from)
+}
+
+/// Tells how states pass a point of a run, which begins at `from`, and whether they go from it to code of another owner. A
+/// point that gives to the next one alone isn't asked: that one is of the run too, unless the run ends there.
 #[inline(always)]
 fn tell_point(
     graph: &Graph,
@@ -95,16 +115,20 @@ fn tell_point(
     is_unchecked: bool,
 ) -> bool
     requires point { n < length graph.now.parts.points.items }
-    requires from { from < length graph.now.parts.points.items }
-    requires unchecked { (p : Program) → Tells p graph.now.parts → is_unchecked ≡ p.unchecked from }
+    requires unchecked { (p : Program) → Tells p graph.now.parts → is_unchecked ≡ p.unchecked n }
     requires passages { length passages.old.items ≡ length graph.now.parts.points.items }
     ensures passages { length passages.new.items ≡ length passages.old.items }
     ensures told { (p : Program) → Tells p graph.now.parts → AreToldBelow p passages.old.items n → AreToldBelow p passages.new.items (n + 1) }
 {
-    let passage = passage_of(graph, n, is_unchecked_as(graph, n, from, is_unchecked));
-    let is_away = !passage.is_straight() && leads_away(graph, n, from);
-    passages[n as usize] = passage;
-    is_away
+    let Some(op) = graph.usual_op(n) else {
+        return tell_rare(graph, passages, n, from, is_unchecked);
+    };
+    if gives_straight(graph, n) {
+        passages[n as usize] = usual_passage(op, is_unchecked, Giving::Straight);
+        return false;
+    }
+    passages[n as usize] = usual_passage(op, is_unchecked, Giving::AlongEdges);
+    leads_away(graph, n, from)
 }
 
 /// Whether alternatives stand at a point: it is of a replacement, or the first of a site.
@@ -125,13 +149,13 @@ pub(crate) fn tell_run(graph: &Graph, passages: &mut Vec<Passage>, from: u32, be
     ensures within { result.end ≤ length graph.now.parts.points.items }
 {
     let sites = sites_below(graph, before.sites, graph.place(from));
-    let is_unchecked = graph.unchecked(from);
+    let mut is_unchecked = graph.unchecked(from);
     let is_away = tell_point(graph, passages, from, from, is_unchecked);
     let mut is_mixed = is_away
         || graph.owner(from).is_none()
         || has_alternatives(graph, from, sites);
     for n in from + 1..graph.points() {
-        if !graph.have_one_owner(n, from) {
+        if !graph.have_one_owner(n, n - 1) {
             let is_passed = passage_at(passages, n - 1).is_straight();
             return Run {
                 end: n,
@@ -139,8 +163,10 @@ pub(crate) fn tell_run(graph: &Graph, passages: &mut Vec<Passage>, from: u32, be
                 sites,
             };
         }
-        let is_away = tell_point(graph, passages, n, from, is_unchecked);
-        is_mixed = is_mixed || is_away;
+        is_unchecked = is_unchecked_as(graph, n, n - 1, is_unchecked);
+        if tell_point(graph, passages, n, from, is_unchecked) {
+            is_mixed = true;
+        }
     }
     Run {
         end: graph.points(),
