@@ -7,12 +7,14 @@ ghost use Rattle.machine_defs.specs.Kept.{kept_or};
 ghost use Rattle.kept_states.specs.Done.{done_of};
 ghost use Rattle.kept_states.specs.LevelStates.{LevelStates, StaysSame, at, count_open, is_settled, offered};
 ghost use Rattle.kept_states.specs.Reached.{AreOrdered, AreReached, kept_at, offered_at, settled_at};
-ghost use Rattle.kept_states.specs.Packed.{state_of};
+ghost use Rattle.kept_states.specs.declared.parts.Numbers.{Numbers as NumbersValue};
+ghost use Rattle.kept_states.specs.Packed.{state_in, state_of};
 
 use crate::done::Done;
 use crate::order::lesser;
 use crate::packed::PackedState;
 use crate::region::Region;
+use crate::slot::Slot;
 use operation_defs::Op;
 use ot_base::NoMemory;
 use state_defs::State;
@@ -183,6 +185,15 @@ impl Levels {
         self.states.packed(self.front_from + i)
     }
 
+    /// The slot of the state of a point that is kept since the last level.
+    #[inline(always)]
+    pub(crate) fn front_slot(&self, i: usize) -> Slot
+        requires { i < length self.now.front }
+        ensures { (wide : NumbersValue) × (at self.now.kept (slice_index self.now.front i) ≡ Some (state_in result wide)) }
+    {
+        self.states.slot(self.front_from + i)
+    }
+
     /// Whether a point is known to have given in this batch.
     pub(crate) fn has_given(&self, n: u32) -> bool
         requires { n < length self.now.kept }
@@ -213,7 +224,9 @@ impl Levels {
         ensures next { self.new.next ≡ offered self.old.kept self.old.next n (state_of state) }
     {
         if self.is_reached(n) {
-            self.offer_again(n, state);
+            // A copy, so that the state itself may stay in registers.
+            let PackedState { slot, wide } = state;
+            self.offer_again(n, PackedState { slot, wide });
         } else {
             self.offer_new(n, state);
         }

@@ -3,7 +3,7 @@
 //! What is told of all points stands in a list of its own, which is much shorter than the graph: while states spread, a
 //! level may have points far from each other, and most of them are passed without a look at the graph but for edges.
 
-ghost use Rattle.std.specs.Prelude.{◌≡◌, ◌+◌, ◌<◌, ◌↔◌, ◌∷◌, ℕ, [], All, Contains, IfOk, IfSome, IsSome, IsTrue, None, false, length, true};
+ghost use Rattle.std.specs.Prelude.{◌≡◌, ◌+◌, ◌<◌, ◌↔◌, ◌∷◌, ℕ, [], All, Contains, IfOk, IfSome, IsSome, IsTrue, None, false, length, not, true};
 ghost use Rattle.machine_defs.specs.Program.{Program};
 ghost use Rattle.machine_defs.specs.Kept.{edges_of, is_free as is_free_hint, state_at};
 ghost use Rattle.program_graph.specs.Tells.{Means, Tells};
@@ -108,25 +108,18 @@ fn is_special(graph: &Graph, n: u32) -> bool
     is_hinted(graph, n) || graph.is_entered(n)
 }
 
-/// Whether an edge of a point is a Next to the next point.
-fn leads_straight(edge: Edge, n: u32) -> bool
-    ensures { IsTrue result → edge ≡ next_edge n }
+/// Whether these edges of a point are one alone, a Next to the next point.
+#[inline(always)]
+pub(crate) fn lead_straight(edges: &[Edge], n: u32) -> bool
+    ensures { IsTrue result → edges.now ≡ next_edge n ∷ [] }
 {
+    if edges.len() != 1 {
+        return false;
+    }
+    let edge = &edges[0];
     match edge.kind {
         EdgeKind::Next => u64::from(edge.to) == u64::from(n) + 1,
         EdgeKind::Taken | EdgeKind::Fixup | EdgeKind::Table | EdgeKind::Sibling => false,
-    }
-}
-
-/// Whether a point gives to the next point alone, along its one edge, which is a Next, if it isn't special.
-#[inline(always)]
-pub(crate) fn gives_straight(graph: &Graph, n: u32) -> bool
-    requires { n < length graph.now.parts.points.items }
-    ensures { IsTrue result → (p : Program) → Tells p graph.now.parts → edges_of p n ≡ next_edge n ∷ [] }
-{
-    match graph.only_edge(n) {
-        Some(edge) => leads_straight(edge, n),
-        None => false,
     }
 }
 
@@ -138,7 +131,7 @@ fn giving_of(graph: &Graph, n: u32) -> Giving
     if is_special(graph, n) {
         return Giving::Special;
     }
-    if gives_straight(graph, n) {
+    if lead_straight(graph.successors(n), n) {
         Giving::Straight
     } else {
         Giving::AlongEdges
@@ -146,13 +139,13 @@ fn giving_of(graph: &Graph, n: u32) -> Giving
 }
 
 /// How states pass a point, whatever it is, whose owner is checked or not.
-pub(crate) fn rare_passage(graph: &Graph, n: u32, is_unchecked: bool) -> Passage
+pub(crate) fn rare_passage(graph: &Graph, n: u32, is_checked: bool) -> Passage
     requires point { n < length graph.now.parts.points.items }
-    requires unchecked { (p : Program) → Tells p graph.now.parts → is_unchecked ≡ p.unchecked n }
+    requires checked { (p : Program) → Tells p graph.now.parts → is_checked ≡ not (p.unchecked n) }
     ensures { (p : Program) → Tells p graph.now.parts → IsPassage p n result }
 {
     Passage {
-        is_open: !is_unchecked && takes_states(graph, n),
+        is_open: is_checked && takes_states(graph, n),
         is_neutral: is_neutral(graph.insn(n).op),
         giving: giving_of(graph, n),
     }
@@ -160,11 +153,11 @@ pub(crate) fn rare_passage(graph: &Graph, n: u32, is_unchecked: bool) -> Passage
 
 /// How states pass a usual point with this operation, whose owner is checked or not, and which gives to such points.
 #[inline(always)]
-pub(crate) fn usual_passage(op: Op, is_unchecked: bool, giving: Giving) -> Passage
-    ensures { (p : Program) (n : ℕ) → op ≡ (p.insn n).op → is_unchecked ≡ p.unchecked n → p.hint n ≡ None → GivesSo p n giving → IsPassage p n result }
+pub(crate) fn usual_passage(op: Op, is_checked: bool, giving: Giving) -> Passage
+    ensures { (p : Program) (n : ℕ) → op ≡ (p.insn n).op → is_checked ≡ not (p.unchecked n) → p.hint n ≡ None → GivesSo p n giving → IsPassage p n result }
 {
     Passage {
-        is_open: !is_unchecked,
+        is_open: is_checked,
         is_neutral: is_neutral(op),
         giving,
     }

@@ -1,13 +1,13 @@
 //! Runs of neighbouring points with one owner, and how states pass their points.
 
-ghost use Rattle.std.specs.Prelude.{◌≡◌, ◌+◌, ◌<◌, ◌≤◌, length};
+ghost use Rattle.std.specs.Prelude.{◌≡◌, ◌+◌, ◌<◌, ◌≤◌, All, length, not};
 ghost use Rattle.machine_defs.specs.Program.{Program};
 ghost use Rattle.program_graph.specs.Tells.{Tells};
 ghost use Rattle.kept_states.specs.Passages.{AreToldBelow};
 
 use crate::alike::FEW_EDGES;
-use crate::passages::{Giving, Passage, gives_straight, passage_at, rare_passage, usual_passage};
-use machine_defs::EdgeKind;
+use crate::passages::{Giving, Passage, lead_straight, passage_at, rare_passage, usual_passage};
+use machine_defs::{Edge, EdgeKind};
 use ot_base::Place;
 use program_graph::Graph;
 
@@ -50,17 +50,11 @@ fn sites_below(graph: &Graph, least: usize, place: Place) -> usize {
     sites.len()
 }
 
-/// Whether states go from a point of a run, which begins at `from`, to code of another owner. A point that has the edges of
-/// an earlier one of the run isn't asked, as that one is.
-fn leads_away(graph: &Graph, n: u32, from: u32) -> bool
-    requires { n < length graph.now.parts.points.items }
+/// Whether states go along one of these edges from a point to code of another owner.
+fn goes_away(graph: &Graph, n: u32, edges: &[Edge]) -> bool
+    requires point { n < length graph.now.parts.points.items }
+    requires within { All (λ e. e.to < length graph.now.parts.points.items) edges.now }
 {
-    let edges = graph.successors(n);
-    if edges.len() > FEW_EDGES
-        && let Some(first) = graph.alike(n)
-    {
-        return first < from || n <= first;
-    }
     for edge in edges {
         if edge.kind != EdgeKind::Sibling && !graph.have_one_owner(edge.to, n) {
             return true;
@@ -69,17 +63,43 @@ fn leads_away(graph: &Graph, n: u32, from: u32) -> bool
     false
 }
 
-/// Whether the owner of a point isn't checked, where it is known of another point.
-fn is_unchecked_as(graph: &Graph, n: u32, other: u32, is_unchecked: bool) -> bool
+/// Whether states go along one of the many edges of a point of a run, which begins at `from`, to code of another owner. A
+/// point that has the edges of an earlier one of the run isn't asked, as that one is.
+#[inline(never)]
+fn many_lead_away(graph: &Graph, n: u32, from: u32, edges: &[Edge]) -> bool
+    requires point { n < length graph.now.parts.points.items }
+    requires within { All (λ e. e.to < length graph.now.parts.points.items) edges.now }
+{
+    match graph.alike(n) {
+        Some(first) => first < from || n <= first,
+        None => goes_away(graph, n, edges),
+    }
+}
+
+/// Whether states go along one of the edges of a point of a run, which begins at `from`, to code of another owner.
+#[inline(always)]
+fn leads_away(graph: &Graph, n: u32, from: u32, edges: &[Edge]) -> bool
+    requires point { n < length graph.now.parts.points.items }
+    requires within { All (λ e. e.to < length graph.now.parts.points.items) edges.now }
+{
+    if edges.len() > FEW_EDGES {
+        return many_lead_away(graph, n, from, edges);
+    }
+    goes_away(graph, n, edges)
+}
+
+/// Whether the owner of a point is checked, where it is known of another point.
+#[inline(always)]
+fn is_checked_as(graph: &Graph, n: u32, other: u32, is_checked: bool) -> bool
     requires point { n < length graph.now.parts.points.items }
     requires other { other < length graph.now.parts.points.items }
-    requires known { (p : Program) → Tells p graph.now.parts → is_unchecked ≡ p.unchecked other }
-    ensures { (p : Program) → Tells p graph.now.parts → result ≡ p.unchecked n }
+    requires known { (p : Program) → Tells p graph.now.parts → is_checked ≡ not (p.unchecked other) }
+    ensures { (p : Program) → Tells p graph.now.parts → result ≡ not (p.unchecked n) }
 {
     if graph.are_together(n, other) {
-        is_unchecked
+        is_checked
     } else {
-        graph.unchecked(n)
+        !graph.unchecked(n)
     }
 }
 
@@ -91,17 +111,17 @@ fn tell_rare(
     passages: &mut Vec<Passage>,
     n: u32,
     from: u32,
-    is_unchecked: bool,
+    is_checked: bool,
 ) -> bool
     requires point { n < length graph.now.parts.points.items }
-    requires unchecked { (p : Program) → Tells p graph.now.parts → is_unchecked ≡ p.unchecked n }
+    requires checked { (p : Program) → Tells p graph.now.parts → is_checked ≡ not (p.unchecked n) }
     requires passages { length passages.old.items ≡ length graph.now.parts.points.items }
     ensures passages { length passages.new.items ≡ length passages.old.items }
     ensures told { (p : Program) → Tells p graph.now.parts → AreToldBelow p passages.old.items n → AreToldBelow p passages.new.items (n + 1) }
 {
-    let passage = rare_passage(graph, n, is_unchecked);
+    let passage = rare_passage(graph, n, is_checked);
     passages[n as usize] = passage;
-    !passage.is_straight() && leads_away(graph, n, from)
+    !passage.is_straight() && leads_away(graph, n, from, graph.successors(n))
 }
 
 /// Tells how states pass a point of a run, which begins at `from`, and whether they go from it to code of another owner. A
@@ -112,23 +132,24 @@ fn tell_point(
     passages: &mut Vec<Passage>,
     n: u32,
     from: u32,
-    is_unchecked: bool,
+    is_checked: bool,
 ) -> bool
     requires point { n < length graph.now.parts.points.items }
-    requires unchecked { (p : Program) → Tells p graph.now.parts → is_unchecked ≡ p.unchecked n }
+    requires checked { (p : Program) → Tells p graph.now.parts → is_checked ≡ not (p.unchecked n) }
     requires passages { length passages.old.items ≡ length graph.now.parts.points.items }
     ensures passages { length passages.new.items ≡ length passages.old.items }
     ensures told { (p : Program) → Tells p graph.now.parts → AreToldBelow p passages.old.items n → AreToldBelow p passages.new.items (n + 1) }
 {
     let Some(op) = graph.usual_op(n) else {
-        return tell_rare(graph, passages, n, from, is_unchecked);
+        return tell_rare(graph, passages, n, from, is_checked);
     };
-    if gives_straight(graph, n) {
-        passages[n as usize] = usual_passage(op, is_unchecked, Giving::Straight);
+    let edges = graph.successors(n);
+    if lead_straight(edges, n) {
+        passages[n as usize] = usual_passage(op, is_checked, Giving::Straight);
         return false;
     }
-    passages[n as usize] = usual_passage(op, is_unchecked, Giving::AlongEdges);
-    leads_away(graph, n, from)
+    passages[n as usize] = usual_passage(op, is_checked, Giving::AlongEdges);
+    leads_away(graph, n, from, edges)
 }
 
 /// Whether alternatives stand at a point: it is of a replacement, or the first of a site.
@@ -140,6 +161,7 @@ fn has_alternatives(graph: &Graph, n: u32, sites_below: usize) -> bool
 }
 
 /// The run that begins at a point, behind another run. Tells how states pass its points.
+#[inline(never)]
 pub(crate) fn tell_run(graph: &Graph, passages: &mut Vec<Passage>, from: u32, before: Run) -> Run
     requires point { from < length graph.now.parts.points.items }
     requires passages { length passages.old.items ≡ length graph.now.parts.points.items }
@@ -149,13 +171,13 @@ pub(crate) fn tell_run(graph: &Graph, passages: &mut Vec<Passage>, from: u32, be
     ensures within { result.end ≤ length graph.now.parts.points.items }
 {
     let sites = sites_below(graph, before.sites, graph.place(from));
-    let mut is_unchecked = graph.unchecked(from);
-    let is_away = tell_point(graph, passages, from, from, is_unchecked);
+    let is_checked = !graph.unchecked(from);
+    let is_away = tell_point(graph, passages, from, from, is_checked);
     let mut is_mixed = is_away
         || graph.owner(from).is_none()
         || has_alternatives(graph, from, sites);
     for n in from + 1..graph.points() {
-        if !graph.have_one_owner(n, n - 1) {
+        if !graph.have_one_owner(n, from) {
             let is_passed = passage_at(passages, n - 1).is_straight();
             return Run {
                 end: n,
@@ -163,8 +185,8 @@ pub(crate) fn tell_run(graph: &Graph, passages: &mut Vec<Passage>, from: u32, be
                 sites,
             };
         }
-        is_unchecked = is_unchecked_as(graph, n, n - 1, is_unchecked);
-        if tell_point(graph, passages, n, from, is_unchecked) {
+        let is_checked_too = is_checked_as(graph, n, from, is_checked);
+        if tell_point(graph, passages, n, from, is_checked_too) {
             is_mixed = true;
         }
     }

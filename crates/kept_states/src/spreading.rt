@@ -21,7 +21,7 @@ ghost use Rattle.kept_states.specs.Told.{HaveGiven};
 
 use crate::alike::giving_edges;
 use crate::batches::{spread_batches, tell_points};
-use crate::gifts::{give_along, give_to_restore, offer_moved};
+use crate::gifts::{give_along, give_to_restore, lasting_slot, offer_moved};
 use crate::levels::Levels;
 use crate::packed::PackedState;
 use crate::passages::{Passage, no_passages, passage_at, restores_of, straight_next};
@@ -72,12 +72,12 @@ fn give_each(graph: &Graph, passages: &[Passage], levels: &mut Levels, i: usize)
     ensures given { (p : Program) → Tells p graph.now.parts → HaveGiven p levels.new (i + 1) }
 {
     let a = levels.front(i);
-    let state = levels.front_state(i);
+    let lasting = lasting_slot(passages, levels, i, a);
     for edge in giving_edges(graph, levels, i, a) {
-        give_along(graph, passages, levels, state, a, *edge);
+        give_along(graph, passages, levels, i, a, lasting, *edge);
     }
     for restore in restores_of(graph, passages, a) {
-        give_to_restore(graph, levels, state, *restore);
+        give_to_restore(graph, levels, i, *restore);
     }
 }
 
@@ -100,8 +100,8 @@ fn give(graph: &Graph, passages: &[Passage], levels: &mut Levels, i: usize)
 {
     let a = levels.front(i);
     if let Some(next) = straight_next(passages, a) {
-        let state = levels.front_state(i);
-        offer_moved(graph, passages, levels, state, a, next);
+        let lasting = lasting_slot(passages, levels, i, a);
+        offer_moved(graph, levels, i, a, lasting, next);
     } else {
         give_each(graph, passages, levels, i);
     }

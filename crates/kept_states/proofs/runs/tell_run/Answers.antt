@@ -1,11 +1,10 @@
 -- One point of the run after another is told of.
-use Rattle.std.proofs.Common.{◌≡◌, ◌-◌, ◌+◌, ℕ, Bool, ◌∙◌, ap, sym, arith}
+use Rattle.std.proofs.Common.{◌∙◌, arith}
 use Rattle.kept_states.proofs.runs.tell_run.Goals as goal
 
 pub loop-n-preserved : goal.loop-n-preserved
 loop-n-preserved c = record {
   passages = c.tell_point.ensures.passages ∙ c.loop-n.invariant.passages;
-  unchecked = λ p t. (let same : c.loop-n.n + 1 - 1 ≡ c.loop-n.n = omega arith in c.is_unchecked_as-is_unchecked.ensures p t ∙ sym (ap p.unchecked same));
   told = λ p t told. c.tell_point.ensures.told p t (c.loop-n.invariant.told p t told);
 }
 
