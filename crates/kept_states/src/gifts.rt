@@ -34,7 +34,7 @@ pub(crate) fn lasting_slot(
     ensures { (p : Program) → ArePassages p passages.now → IfSome result (Lasts p levels.now.kept from) }
 {
     let slot = levels.front_slot(i);
-    if passage_at(passages, from).is_neutral && slot.is_short() {
+    if passage_at(passages, from).is_neutral && !slot.is_wide() {
         Some(slot)
     } else {
         None

@@ -3,7 +3,7 @@
 //! What is told of all points stands in a list of its own, which is much shorter than the graph: while states spread, a
 //! level may have points far from each other, and most of them are passed without a look at the graph but for edges.
 
-ghost use Rattle.std.specs.Prelude.{◌≡◌, ◌+◌, ◌<◌, ◌↔◌, ◌∷◌, ℕ, [], All, Contains, IfOk, IfSome, IsSome, IsTrue, None, false, length, not, true};
+ghost use Rattle.std.specs.Prelude.{◌≡◌, ◌+◌, ◌<◌, ◌^◌, ◌↔◌, ◌∷◌, ℕ, [], All, Contains, IfOk, IfSome, IsSome, IsTrue, None, false, length, not, true};
 ghost use Rattle.machine_defs.specs.Program.{Program};
 ghost use Rattle.machine_defs.specs.Kept.{edges_of, is_free as is_free_hint, state_at};
 ghost use Rattle.program_graph.specs.Tells.{Means, Tells};
@@ -178,23 +178,17 @@ pub(crate) fn passage_at(passages: &[Passage], n: u32) -> Passage
     passages[n as usize]
 }
 
-/// The next point, where a point gives something to that one alone, and states come in there.
+/// Whether a point gives something to the next point alone, and states come in there.
 #[inline(always)]
-pub(crate) fn straight_next(passages: &[Passage], n: u32) -> Option<u32>
-    requires { n < length passages.now }
-    ensures number { IfSome result (λ next. (next ≡ n + 1) × (next < length passages.now)) }
-    ensures straight { IsSome result → (p : Program) → ArePassages p passages.now → IsStraight p n }
+pub(crate) fn goes_straight(graph: &Graph, passages: &[Passage], n: u32) -> bool
+    requires passages { length passages.now ≡ length graph.now.parts.points.items }
+    requires point { n < length passages.now }
+    ensures next { IsTrue result → n + 1 < length passages.now }
+    ensures fits { IsTrue result → n + 1 < 2 ^ 32 }
+    ensures straight { IsTrue result → (p : Program) → ArePassages p passages.now → IsStraight p n }
 {
-    let passage = passage_at(passages, n);
-    if !passage.is_straight() {
-        return None;
-    }
-    let next = n.checked_add(1)?;
-    if (next as usize) < passages.len() && passage_at(passages, next).is_open {
-        Some(next)
-    } else {
-        None
-    }
+    let points = graph.points();
+    passage_at(passages, n).is_straight() && n + 1 < points && passage_at(passages, n + 1).is_open
 }
 
 /// The RESTORE points that mean a SAVE point.

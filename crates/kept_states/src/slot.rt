@@ -97,7 +97,8 @@ impl Slot {
 
     /// Whether the numbers of the state stand elsewhere.
     pub(crate) fn is_wide(self) -> bool
-        ensures { result ≡ self.is_wide }
+        ensures wide { result ≡ self.is_wide }
+        ensures near { result ≡ false → (wide : NumbersValue) → has_near_numbers (state_in self wide) ≡ true }
     {
         self.is_wide
     }
@@ -125,7 +126,6 @@ impl Slot {
 
     /// Whether the numbers of the state have 16 bits, and so have the offsets of its row.
     pub(crate) fn is_short(self) -> bool
-        ensures short { IsTrue result → self.is_wide ≡ false }
         ensures near { IsTrue result → (wide : NumbersValue) → has_near_numbers (state_in self wide) ≡ true }
         ensures fit { IsTrue result → (wide : NumbersValue) → unfit_offset (state_in self wide) ≡ None }
     {

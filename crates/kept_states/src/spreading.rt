@@ -5,7 +5,7 @@
 //! those of level 0, no point is reached from two batches; so each has the level and the state that it has where states
 //! spread from all points of level 0 at once. Where one does, they spread from all at once, from the beginning.
 
-ghost use Rattle.std.specs.Prelude.{◌≡◌, ◌≢◌, ◌+◌, ◌<◌, ◌↔◌, ℕ, List, [], None, Some, All, Contains, IfOk, IsSome, IsTrue, Ok, length, true};
+ghost use Rattle.std.specs.Prelude.{◌≡◌, ◌≢◌, ◌+◌, ◌<◌, ◌≤◌, ◌^◌, ◌↔◌, ℕ, List, [], None, Some, All, Contains, IfOk, IsSome, IsTrue, Ok, length, true};
 ghost use Rattle.state_defs.specs.Move.{has_near_numbers, move};
 ghost use Rattle.state_defs.specs.Row.{unfit_offset};
 ghost use Rattle.machine_defs.specs.Program.{Program, IsPoint};
@@ -24,7 +24,7 @@ use crate::batches::{spread_batches, tell_points};
 use crate::gifts::{give_along, give_to_restore, lasting_slot, offer_moved};
 use crate::levels::Levels;
 use crate::packed::PackedState;
-use crate::passages::{Passage, no_passages, passage_at, restores_of, straight_next};
+use crate::passages::{Passage, goes_straight, no_passages, passage_at, restores_of};
 use operation_defs::Op;
 use ot_base::NoMemory;
 use program_graph::Graph;
@@ -99,9 +99,9 @@ fn give(graph: &Graph, passages: &[Passage], levels: &mut Levels, i: usize)
     ensures given { (p : Program) → Tells p graph.now.parts → HaveGiven p levels.new (i + 1) }
 {
     let a = levels.front(i);
-    if let Some(next) = straight_next(passages, a) {
+    if goes_straight(graph, passages, a) {
         let lasting = lasting_slot(passages, levels, i, a);
-        offer_moved(graph, levels, i, a, lasting, next);
+        offer_moved(graph, levels, i, a, lasting, a + 1);
     } else {
         give_each(graph, passages, levels, i);
     }
@@ -146,6 +146,7 @@ pub(crate) fn offer_first(graph: &Graph, levels: &mut Levels, n: u32)
 }
 
 /// Offers a point its state of level 0, where it was offered none yet.
+#[inline(never)]
 fn offer_missing_first(graph: &Graph, passages: &[Passage], levels: &mut Levels, n: u32)
     requires points { length levels.old.kept ≡ length graph.now.parts.points.items }
     requires passages { length passages.now ≡ length graph.now.parts.points.items }
@@ -167,7 +168,26 @@ fn offer_missing_first(graph: &Graph, passages: &[Passage], levels: &mut Levels,
     }
 }
 
-/// Offers each point its state of level 0 that was offered none yet.
+/// Whether none of four neighbouring points is special.
+#[inline(always)]
+fn are_ordinary(passages: &[Passage], n: u32) -> bool
+    requires inside { n + 4 ≤ length passages.now }
+    requires fits { n + 4 < 2 ^ 32 }
+    ensures { IsTrue result → (p : Program) → ArePassages p passages.now → (q : ℕ) → n ≤ q → q < n + 4 → state_at p 0 q ≡ None }
+{
+    if passage_at(passages, n).is_special() {
+        return false;
+    }
+    if passage_at(passages, n + 1).is_special() {
+        return false;
+    }
+    if passage_at(passages, n + 2).is_special() {
+        return false;
+    }
+    !passage_at(passages, n + 3).is_special()
+}
+
+/// Offers each point its state of level 0 that was offered none yet. Few points are special.
 fn offer_all_first(graph: &Graph, passages: &[Passage], levels: &mut Levels)
     requires points { length levels.old.kept ≡ length graph.now.parts.points.items }
     requires passages { length passages.now ≡ length graph.now.parts.points.items }
@@ -179,8 +199,18 @@ fn offer_all_first(graph: &Graph, passages: &[Passage], levels: &mut Levels)
     ensures next { length levels.new.next.states ≡ length levels.old.kept }
     ensures first { (p : Program) → Tells p graph.now.parts → (q : ℕ) → IsPoint p q → at levels.new.next.states q ≡ state_at p 0 q }
 {
-    for n in 0..graph.points() {
-        offer_missing_first(graph, passages, levels, n);
+    let points = graph.points();
+    let mut n = 0;
+    'points: loop {
+        if n == points {
+            return;
+        }
+        if 4 <= points - n && are_ordinary(passages, n) {
+            n += 4;
+        } else {
+            offer_missing_first(graph, passages, levels, n);
+            n += 1;
+        }
     }
 }
 

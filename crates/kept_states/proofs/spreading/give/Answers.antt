@@ -11,8 +11,8 @@ use Rattle.kept_states.proofs.LevelSteps.{state_of_some}
 use Rattle.kept_states.proofs.Straight.{straight_given}
 use Rattle.kept_states.proofs.spreading.give.Goals as goal
 
-pub returns-in-Some-clause-given : goal.returns-in-Some-clause-given
-returns-in-Some-clause-given c p t =
+pub returns-then-goes_straight-clause-given : goal.returns-then-goes_straight-clause-given
+returns-then-goes_straight-clause-given c p t =
     let a : ℕ = c.front-a.result in
     let kept : List (Option State) = c.args.levels.now.kept in
     let front : List ℕ = c.args.levels.now.front in
@@ -20,15 +20,11 @@ returns-in-Some-clause-given c p t =
     let w = state_of_some (at kept a) c.front-a.ensures.kept in
     let s : State = w.0 in
     let has : at kept a ≡ Some s = w.1 in
-    let number : c.in-Some.next ≡ a + 1 = c.in-Some.ensures.number.0 in
-    let within : c.in-Some.next < length c.args.passages.now = c.in-Some.ensures.number.1 in
-    let straight : IsStraight p a = c.in-Some.ensures.straight refl p (c.requires.told p t) in
-    let inside : a + 1 < length before.states = omega (arith, number, within, c.requires.passages, c.requires.points, c.requires.next) in
+    let inside : a + 1 < length before.states = omega (arith, c.goes_straight.ensures.next c.if-goes_straight.true, c.requires.passages, c.requires.points, c.requires.next) in
     let given : AreLeast kept (offer_all kept before (a + 1) (moved (move s (p.insn a).op))) (IsGiven p (at kept) (take (c.args.i + 1) front)) =
-    straight_given p kept front c.args.i a c.requires.inside c.front-a.ensures.front (t.count ∙ sym c.requires.points) before s has straight inside (c.requires.given p t) in
-    let next : c.offer_moved.new.levels.next ≡ offer_all kept before (a + 1) (moved (move s (p.insn a).op)) = subst (λ (q : ℕ). c.offer_moved.new.levels.next ≡ offer_all kept before q (moved (move s (p.insn a).op))) number (c.offer_moved.ensures.next p s t has) in
+    straight_given p kept front c.args.i a c.requires.inside c.front-a.ensures.front (t.count ∙ sym c.requires.points) before s has (c.goes_straight.ensures.straight c.if-goes_straight.true p (c.requires.told p t)) inside (c.requires.given p t) in
     let more : AreLeast kept c.offer_moved.new.levels.next (IsGiven p (at kept) (take (c.args.i + 1) front)) =
-    subst (λ (offers : Offers). AreLeast kept offers (IsGiven p (at kept) (take (c.args.i + 1) front))) (sym next) given in
+    subst (λ (offers : Offers). AreLeast kept offers (IsGiven p (at kept) (take (c.args.i + 1) front))) (sym (c.offer_moved.ensures.next p s t has)) given in
     subst (λ (k : List (Option State)). AreLeast k c.offer_moved.new.levels.next (IsGiven p (at k) (take (c.args.i + 1) c.offer_moved.new.levels.front))) (sym c.offer_moved.ensures.kept)
     (subst (λ (f : List ℕ). AreLeast kept c.offer_moved.new.levels.next (IsGiven p (at kept) (take (c.args.i + 1) f))) (sym c.offer_moved.ensures.front) more)
 

@@ -19,7 +19,8 @@ slot-requires c =
 
 pub returns : goal.returns
 returns c =
-    let long : c.args.i < length (drop c.self.inside.front_from (take c.self.inside.front_to c.self.inside.reached.items)) = subst (λ (v : LevelStates). c.args.i < length v.front) (sym c.self.view_is) c.requires in
-    (c.slot.ensures.0,
-    subst (λ (v : LevelStates). at v.kept (get_or v.front c.args.i 0) ≡ Some (state_in c.slot.result c.slot.ensures.0)) c.self.view_is
-    (part_state c.self.inside.places.items c.self.inside.reached.items c.self.inside.states.list c.self.inside.kept c.self.invariant.2 c.self.inside.front_from c.self.inside.front_to c.args.i c.self.invariant.3.front_kept long ∙ c.slot.ensures.1))
+    let long : c.args.i < length (drop c.self.inside.front_from (take c.self.inside.front_to c.self.inside.reached.items)) = subst (λ (v : LevelStates). c.args.i < length v.front) (sym c.self.view_is) c.requires in (
+      c.slot.ensures.0,
+      subst (λ (v : LevelStates). at v.kept (get_or v.front c.args.i 0) ≡ Some (state_in c.slot.result c.slot.ensures.0)) c.self.view_is
+          (part_state c.self.inside.places.items c.self.inside.reached.items c.self.inside.states.list c.self.inside.kept c.self.invariant.2 c.self.inside.front_from c.self.inside.front_to c.args.i c.self.invariant.3.front_kept long ∙ c.slot.ensures.1),
+    )

@@ -10,6 +10,6 @@ index-requires c =
 
 pub returns : goal.returns
 returns c = (
-    numbers_at c.self.inside.wide.items c.args.place,
-    state_at c.args.self.now c.self.inside.slots.items (numbers_at c.self.inside.wide.items) (vec_capacity c.self.inside.slots) c.self.view_is c.args.place c.index.result.now c.requires c.index.ensures,
-  )
+  numbers_at c.self.inside.wide.items c.args.place,
+  state_at c.args.self.now c.self.inside.slots.items (numbers_at c.self.inside.wide.items) (vec_capacity c.self.inside.slots) c.self.view_is c.args.place c.index.result.now c.requires c.index.ensures,
+)
