@@ -1,9 +1,13 @@
 -- How states pass points, told of one after another.
-use Rattle.std.proofs.Common.{◌≡◌, ◌≢◌, ℕ, ◌+◌, ◌<◌, ◌&&◌, Bool, true, false, not, Option, inl, inr, List, [], None, if◌then◌else◌, length, get_or, set, refl, sym, subst, arith}
+use Rattle.std.proofs.Common.{◌≡◌, ◌≢◌, ℕ, ◌+◌, ◌<◌, ◌&&◌, Bool, true, false, not, Option, inl, inr, List, [], ◌∷◌, None, if◌then◌else◌, length, get_or, set, refl, sym, subst, arith}
 use Rattle.std.proofs.lemmas.List.{get_or-set_same, get_or-set_other}
 use Rattle.state_defs.specs.declared.state.State.{State}
 use Rattle.machine_defs.specs.Program.{Program}
-use Rattle.machine_defs.specs.Kept.{is_at_entry, state_at}
+use Rattle.machine_defs.specs.declared.flow.EdgeKind.{EdgeKind}
+use Rattle.machine_defs.specs.declared.flow.EdgeKind.TheVariants.{Next, Taken, Fixup, Table, Sibling}
+use Rattle.operation_defs.specs.declared.op.Op.{Op}
+use Rattle.state_defs.specs.Move.{move}
+use Rattle.machine_defs.specs.Kept.{brought_along, is_at_entry, moved, state_at}
 use Rattle.kept_states.specs.declared.passages.Passage.{Passage}
 use Rattle.kept_states.specs.Passages.{AreToldBelow, IsPassage}
 use Rattle.kept_states.proofs.Places.{same_or_not}
@@ -35,3 +39,11 @@ no_state false state h = h
 -- a point that has no hint, and where no control stands that comes to an entry, isn't of level 0
 pub not_first : (p : Program) (n : ℕ) → p.hint n ≡ None → is_at_entry p n ≡ false → state_at p 0 n ≡ None
 not_first p n hint entry = rw hint (rw entry (no_state (p.unchecked n) None refl))
+
+-- a state that the operation leaves as it is goes along all edges but those to another function
+pub brought_same : (s t : State) (op : Op) (kind : EdgeKind) → kind ≢ Sibling → moved (move s op) ≡ t ∷ [] → s ≡ t → brought_along s op kind ≡ t ∷ []
+brought_same s t op Next other e same = e
+brought_same s t op Taken other e same = e
+brought_same s t op Fixup other e same = rw same refl
+brought_same s t op Table other e same = e
+brought_same s t op Sibling other e same = absurd (other refl)

@@ -136,6 +136,31 @@ fn offer_same(levels: &mut Levels, i: usize, to: u32)
 
 /// Offers the point at an edge's end what the one at a place in front brings along it: to a fixup its state before the
 /// instruction, else the one after it; to another function none.
+#[inline(never)]
+fn bring_changed(graph: &Graph, levels: &mut Levels, i: usize, from: u32, edge: Edge)
+    requires points { length levels.old.kept ≡ length graph.now.parts.points.items }
+    requires inside { i < length levels.old.front }
+    requires from { from ≡ slice_index levels.old.front i }
+    requires giver { from < length graph.now.parts.points.items }
+    requires point { edge.to < length graph.now.parts.points.items }
+    ensures kept { levels.new.kept ≡ levels.old.kept }
+    ensures front { levels.new.front ≡ levels.old.front }
+    ensures done { levels.new.done ≡ levels.old.done }
+    ensures same { StaysSame levels.old levels.new }
+    ensures len { length levels.new.next.states ≡ length levels.old.next.states }
+    ensures next { (p : Program) (s : State) → Tells p graph.now.parts → at levels.old.kept from ≡ Some s → levels.new.next ≡ offer_all levels.old.kept levels.old.next edge.to (brought_along s (p.insn from).op edge.kind) }
+{
+    match edge.kind {
+        EdgeKind::Next | EdgeKind::Taken | EdgeKind::Table => {
+            offer_changed(graph, levels, i, from, edge.to);
+        }
+        EdgeKind::Fixup => offer_same(levels, i, edge.to),
+        EdgeKind::Sibling => {}
+    }
+}
+
+/// Offers the point at an edge's end what the one at a place in front brings along it. Where its operation leaves its state as
+/// it is, the slot that it is in may be given: then that is brought along all edges but those to another function.
 #[inline(always)]
 fn bring_along(
     graph: &Graph,
@@ -158,13 +183,15 @@ fn bring_along(
     ensures len { length levels.new.next.states ≡ length levels.old.next.states }
     ensures next { (p : Program) (s : State) → Tells p graph.now.parts → at levels.old.kept from ≡ Some s → levels.new.next ≡ offer_all levels.old.kept levels.old.next edge.to (brought_along s (p.insn from).op edge.kind) }
 {
-    match edge.kind {
-        EdgeKind::Next | EdgeKind::Taken | EdgeKind::Table => {
-            offer_moved(graph, levels, i, from, lasting, edge.to);
-        }
-        EdgeKind::Fixup => offer_same(levels, i, edge.to),
-        EdgeKind::Sibling => {}
+    let Some(slot) = lasting else {
+        bring_changed(graph, levels, i, from, edge);
+        return;
+    };
+    if edge.kind == EdgeKind::Sibling {
+        return;
     }
+    let wide = NO_NUMBERS;
+    levels.offer(edge.to, PackedState { slot, wide });
 }
 
 /// Offers the point at an edge's end what the one at a place in front gives along it.

@@ -223,13 +223,32 @@ impl Levels {
         ensures firsts { self.new.firsts ≡ self.old.firsts }
         ensures next { self.new.next ≡ offered self.old.kept self.old.next n (state_of state) }
     {
-        if self.is_reached(n) {
+        if !self.is_reached(n) {
+            self.offer_new(n, state);
+        } else if !self.leaves_aside(n) {
             // A copy, so that the state itself may stay in registers.
             let PackedState { slot, wide } = state;
             self.offer_again(n, PackedState { slot, wide });
-        } else {
-            self.offer_new(n, state);
         }
+    }
+
+    /// Leaves aside what a point is offered, if it is kept. Tells whether it is.
+    #[inline(always)]
+    fn leaves_aside(&mut self, n: u32) -> bool
+        requires { n < length self.old.kept }
+        ensures kept { self.new.kept ≡ self.old.kept }
+        ensures front { self.new.front ≡ self.old.front }
+        ensures done { self.new.done ≡ self.old.done }
+        ensures firsts { self.new.firsts ≡ self.old.firsts }
+        ensures next { IsTrue result → (s : State) → self.new.next ≡ offered self.old.kept self.old.next n s }
+        ensures otherwise { result ≡ false → self.new.next ≡ self.old.next }
+    {
+        let place = self.places[n as usize] as usize;
+        if self.kept <= place {
+            return false;
+        }
+        self.met |= is_settled_at(self.first, self.settled, place);
+        true
     }
 
     /// Offers a point that is likely to be reached a state for the next level.
