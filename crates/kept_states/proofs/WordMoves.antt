@@ -3,7 +3,7 @@ use Rattle.std.proofs.Common.{◌≡◌, true, false, ℤ, SFits, w16, to_z, of_
 use Rattle.std.specs.Prelude.{IfSome, pos, negsuc, int_lt, ◌+ℤ◌, ◌-ℤ◌}
 use Rattle.std.proofs.lemmas.Int.{ints, to_z-of_z}
 use Rattle.operation_defs.specs.declared.op.Op.{Op}
-use Rattle.operation_defs.specs.declared.op.Op.TheVariants.{Push, Hop, Pop, Popf}
+use Rattle.operation_defs.specs.declared.op.Op.TheVariants.{Push, Hop, Pop, Popf, BpOther}
 use Rattle.state_defs.specs.declared.state.State.{State}
 use Rattle.state_defs.specs.Move.{has_near_numbers, move, to}
 use Rattle.state_defs.specs.Row.{has_16_bits}
@@ -105,6 +105,10 @@ pop_slot s t wide other live m over =
     let new = moved_state s t (s.depth -ℤ pos 8) other m in
     (same_move _ _ _ _ Pop old new both.0, same_move _ _ _ _ Popf old new both.1)
 
+-- where rbp is lost, a state that doesn't have it as a frame pointer stays as it is
+pub lose_bp_slot : (s : Slot) (wide other : Numbers) → s.is_wide ≡ false → s.shape ≡ KnownSaved → has_16_bits s.depth ≡ true → has_16_bits s.fp ≡ true → has_16_bits s.home ≡ true → move (state_in s wide) BpOther ≡ Ok (state_in s other)
+lose_bp_slot s wide other short shape d f h = rw (short, shape) (to_near (with_numbers KnownSaved (short_numbers s)) (short_is_near KnownSaved (short_numbers s) (near_of s.depth d) (near_of s.fp f) (near_of s.home h)))
+
 eight_fits : SFits w16 (pos 8)
 eight_fits = grind (arith, ints)
 
@@ -126,3 +130,8 @@ pub one_of : (s : Slot) (found : Option Slot) (op one other : Op) → (op ≡ on
 one_of s None op one other which h = tt
 one_of s (Some slot) op one other (inl is) h = λ w o. subst (λ (x : Op). move (state_in s w) x ≡ Ok (state_in slot o)) (sym is) (h w o).0
 one_of s (Some slot) op one other (inr is) h = λ w o. subst (λ (x : Op). move (state_in s w) x ≡ Ok (state_in slot o)) (sym is) (h w o).1
+
+-- where an operation moves the state so
+pub just_one : (s : Slot) (found : Option Slot) (op one : Op) → op ≡ one → IfSome found (λ slot. (w o : Numbers) → move (state_in s w) one ≡ Ok (state_in slot o)) → IfSome found (λ slot. (w o : Numbers) → move (state_in s w) op ≡ Ok (state_in slot o))
+just_one s None op one is h = tt
+just_one s (Some slot) op one is h = λ w o. subst (λ (x : Op). move (state_in s w) x ≡ Ok (state_in slot o)) (sym is) (h w o)

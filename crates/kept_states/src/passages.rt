@@ -3,11 +3,12 @@
 //! What is told of all points stands in a list of its own, which is much shorter than the graph: while states spread, a
 //! level may have points far from each other, and most of them are passed without a look at the graph but for edges.
 
-ghost use Rattle.std.specs.Prelude.{◌≡◌, ◌+◌, ◌<◌, ◌^◌, ◌↔◌, ◌∷◌, ℕ, [], All, Contains, IfOk, IfSome, IsSome, IsTrue, None, false, length, not, true};
+ghost use Rattle.std.specs.Prelude.{◌≡◌, ◌≢◌, ◌+◌, ◌<◌, ◌^◌, ◌↔◌, ◌∷◌, ℕ, [], All, Contains, IfOk, IfSome, IsSome, IsTrue, None, false, length, not, slice_index_or, true};
 ghost use Rattle.machine_defs.specs.Program.{Program};
 ghost use Rattle.machine_defs.specs.Kept.{edges_of, is_free as is_free_hint, state_at};
 ghost use Rattle.program_graph.specs.Tells.{Means, Tells};
-ghost use Rattle.kept_states.specs.Passages.{ArePassages, GivesSo, IsPassage, IsStraight, next_edge};
+ghost use Rattle.kept_states.specs.declared.passages.Passage.{Passage as PassageValue};
+ghost use Rattle.kept_states.specs.Passages.{AreLinked, ArePassages, AreToldBelow, GivesSo, IsPassage, IsStraight, next_edge};
 
 use crate::neutral::is_neutral;
 use machine_defs::{Edge, EdgeKind};
@@ -20,7 +21,7 @@ use std::alloc::Global;
 /// To which points a point gives something.
 #[derive(Clone, Copy)]
 pub(crate) enum Giving {
-    /// To the next point alone, along its one edge, which is a Next. It isn't of level 0.
+    /// To the next point alone, along its one edge, which is a Next, and states come in there. It isn't of level 0.
     Straight,
     /// To points at the ends of its edges. It isn't of level 0.
     AlongEdges,
@@ -111,7 +112,8 @@ fn is_special(graph: &Graph, n: u32) -> bool
 /// Whether these edges of a point are one alone, a Next to the next point.
 #[inline(always)]
 pub(crate) fn lead_straight(edges: &[Edge], n: u32) -> bool
-    ensures { IsTrue result → edges.now ≡ next_edge n ∷ [] }
+    ensures edges { IsTrue result → edges.now ≡ next_edge n ∷ [] }
+    ensures fits { IsTrue result → n + 1 < 2 ^ 32 }
 {
     if edges.len() != 1 {
         return false;
@@ -123,16 +125,14 @@ pub(crate) fn lead_straight(edges: &[Edge], n: u32) -> bool
     }
 }
 
-/// To which points a point gives something.
-fn giving_of(graph: &Graph, n: u32) -> Giving
+/// To which points a point gives something, as it is told of one that is rare.
+fn rare_giving(graph: &Graph, n: u32) -> Giving
     requires { n < length graph.now.parts.points.items }
-    ensures { (p : Program) → Tells p graph.now.parts → GivesSo p n result }
+    ensures so { (p : Program) → Tells p graph.now.parts → GivesSo p n result }
+    ensures not_straight { result ≢ Giving.Straight }
 {
     if is_special(graph, n) {
-        return Giving::Special;
-    }
-    if lead_straight(graph.successors(n), n) {
-        Giving::Straight
+        Giving::Special
     } else {
         Giving::AlongEdges
     }
@@ -142,22 +142,25 @@ fn giving_of(graph: &Graph, n: u32) -> Giving
 pub(crate) fn rare_passage(graph: &Graph, n: u32, is_checked: bool) -> Passage
     requires point { n < length graph.now.parts.points.items }
     requires checked { (p : Program) → Tells p graph.now.parts → is_checked ≡ not (p.unchecked n) }
-    ensures { (p : Program) → Tells p graph.now.parts → IsPassage p n result }
+    ensures passage { (p : Program) → Tells p graph.now.parts → IsPassage p n result }
+    ensures not_straight { result.giving ≢ Giving.Straight }
 {
     Passage {
         is_open: is_checked && takes_states(graph, n),
         is_neutral: is_neutral(graph.insn(n).op),
-        giving: giving_of(graph, n),
+        giving: rare_giving(graph, n),
     }
 }
 
-/// How states pass a usual point with this operation, whose owner is checked or not, and which gives to such points.
+/// How states pass a usual point with this operation, whose owner is checked, and which gives to such points.
 #[inline(always)]
-pub(crate) fn usual_passage(op: Op, is_checked: bool, giving: Giving) -> Passage
-    ensures { (p : Program) (n : ℕ) → op ≡ (p.insn n).op → is_checked ≡ not (p.unchecked n) → p.hint n ≡ None → GivesSo p n giving → IsPassage p n result }
+pub(crate) fn usual_passage(op: Op, giving: Giving) -> Passage
+    ensures passage { (p : Program) (n : ℕ) → op ≡ (p.insn n).op → p.unchecked n ≡ false → p.hint n ≡ None → GivesSo p n giving → IsPassage p n result }
+    ensures is_open { result.is_open ≡ true }
+    ensures giving { result.giving ≡ giving }
 {
     Passage {
-        is_open: is_checked,
+        is_open: true,
         is_neutral: is_neutral(op),
         giving,
     }
@@ -178,17 +181,81 @@ pub(crate) fn passage_at(passages: &[Passage], n: u32) -> Passage
     passages[n as usize]
 }
 
-/// Whether a point gives something to the next point alone, and states come in there.
+/// Whether a point gives something to the next point alone.
 #[inline(always)]
-pub(crate) fn goes_straight(graph: &Graph, passages: &[Passage], n: u32) -> bool
-    requires passages { length passages.now ≡ length graph.now.parts.points.items }
+pub(crate) fn goes_straight(passages: &[Passage], n: u32) -> bool
     requires point { n < length passages.now }
+    requires linked { AreLinked passages.now (length passages.now) }
     ensures next { IsTrue result → n + 1 < length passages.now }
     ensures fits { IsTrue result → n + 1 < 2 ^ 32 }
     ensures straight { IsTrue result → (p : Program) → ArePassages p passages.now → IsStraight p n }
 {
-    let points = graph.points();
-    passage_at(passages, n).is_straight() && n + 1 < points && passage_at(passages, n + 1).is_open
+    match passages[n as usize].giving {
+        Giving::Straight => true,
+        Giving::AlongEdges | Giving::Special => false,
+    }
+}
+
+/// Lets a point give along its edges that may be told to give to the next one alone, where none comes in.
+fn unlink(passages: &mut Vec<Passage>, n: u32)
+    requires { n < length passages.old.items }
+    ensures passages { length passages.new.items ≡ length passages.old.items }
+    ensures told { (p : Program) (m : ℕ) → AreToldBelow p passages.old.items m → AreToldBelow p passages.new.items m }
+    ensures linked { (m : ℕ) → AreLinked passages.old.items m → AreLinked passages.new.items m }
+    ensures unlinked { (d : PassageValue) → (slice_index_or passages.new.items n d).giving ≢ Giving.Straight }
+{
+    let passage = passages[n as usize];
+    match passage.giving {
+        Giving::Straight => {
+            passages[n as usize] = Passage {
+                giving: Giving::AlongEdges,
+                ..passage
+            };
+        }
+        Giving::AlongEdges | Giving::Special => {}
+    }
+}
+
+/// Lets the point before another one give along its edges, if it may be told to give to that one alone.
+fn unlink_before(passages: &mut Vec<Passage>, n: u32)
+    requires { n < length passages.old.items }
+    ensures passages { length passages.new.items ≡ length passages.old.items }
+    ensures told { (p : Program) (m : ℕ) → AreToldBelow p passages.old.items m → AreToldBelow p passages.new.items m }
+    ensures linked { (m : ℕ) → AreLinked passages.old.items m → AreLinked passages.new.items m }
+    ensures unlinked { (k : ℕ) (d : PassageValue) → k + 1 ≡ n → (slice_index_or passages.new.items k d).giving ≢ Giving.Straight }
+{
+    if n > 0 {
+        unlink(passages, n - 1);
+    }
+}
+
+/// Tells how states pass the next point. If none comes in there, no point gives to it alone.
+#[inline(always)]
+pub(crate) fn tell_linked(passages: &mut Vec<Passage>, n: u32, passage: Passage)
+    requires inside { n < length passages.old.items }
+    requires own { passage.giving ≡ Giving.Straight → (n + 1 < 2 ^ 32) × (n + 1 < length passages.old.items) }
+    requires before { (k : ℕ) (d : PassageValue) → k + 1 ≡ n → (slice_index_or passages.old.items k d).giving ≡ Giving.Straight → passage.is_open ≡ true }
+    ensures passages { length passages.new.items ≡ length passages.old.items }
+    ensures told { (p : Program) → AreToldBelow p passages.old.items n → IsPassage p n passage → AreToldBelow p passages.new.items (n + 1) }
+    ensures linked { AreLinked passages.old.items n → AreLinked passages.new.items (n + 1) }
+{
+    passages[n as usize] = passage;
+}
+
+/// Tells how states pass the next point, which doesn't give to the one behind it alone.
+pub(crate) fn tell_passage(passages: &mut Vec<Passage>, n: u32, passage: Passage)
+    requires inside { n < length passages.old.items }
+    requires own { passage.giving ≢ Giving.Straight }
+    ensures passages { length passages.new.items ≡ length passages.old.items }
+    ensures told { (p : Program) → AreToldBelow p passages.old.items n → IsPassage p n passage → AreToldBelow p passages.new.items (n + 1) }
+    ensures linked { AreLinked passages.old.items n → AreLinked passages.new.items (n + 1) }
+{
+    if passage.is_open {
+        tell_linked(passages, n, passage);
+    } else {
+        unlink_before(passages, n);
+        tell_linked(passages, n, passage);
+    }
 }
 
 /// The RESTORE points that mean a SAVE point.

@@ -3,10 +3,13 @@
 ghost use Rattle.std.specs.Prelude.{◌≡◌, ◌+◌, ◌<◌, ◌≤◌, All, length, not};
 ghost use Rattle.machine_defs.specs.Program.{Program};
 ghost use Rattle.program_graph.specs.Tells.{Tells};
-ghost use Rattle.kept_states.specs.Passages.{AreToldBelow};
+ghost use Rattle.kept_states.specs.Passages.{AreLinked, AreToldBelow};
 
 use crate::alike::FEW_EDGES;
-use crate::passages::{Giving, Passage, lead_straight, passage_at, rare_passage, usual_passage};
+use crate::passages::{
+    Giving, Passage, lead_straight, passage_at, rare_passage, tell_linked, tell_passage,
+    usual_passage,
+};
 use machine_defs::{Edge, EdgeKind};
 use ot_base::Place;
 use program_graph::Graph;
@@ -118,10 +121,10 @@ fn tell_rare(
     requires passages { length passages.old.items ≡ length graph.now.parts.points.items }
     ensures passages { length passages.new.items ≡ length passages.old.items }
     ensures told { (p : Program) → Tells p graph.now.parts → AreToldBelow p passages.old.items n → AreToldBelow p passages.new.items (n + 1) }
+    ensures linked { AreLinked passages.old.items n → AreLinked passages.new.items (n + 1) }
 {
-    let passage = rare_passage(graph, n, is_checked);
-    passages[n as usize] = passage;
-    !passage.is_straight() && leads_away(graph, n, from, graph.successors(n))
+    tell_passage(passages, n, rare_passage(graph, n, is_checked));
+    leads_away(graph, n, from, graph.successors(n))
 }
 
 /// Tells how states pass a point of a run, which begins at `from`, and whether they go from it to code of another owner. A
@@ -139,16 +142,20 @@ fn tell_point(
     requires passages { length passages.old.items ≡ length graph.now.parts.points.items }
     ensures passages { length passages.new.items ≡ length passages.old.items }
     ensures told { (p : Program) → Tells p graph.now.parts → AreToldBelow p passages.old.items n → AreToldBelow p passages.new.items (n + 1) }
+    ensures linked { AreLinked passages.old.items n → AreLinked passages.new.items (n + 1) }
 {
+    if !is_checked {
+        return tell_rare(graph, passages, n, from, is_checked);
+    }
     let Some(op) = graph.usual_op(n) else {
         return tell_rare(graph, passages, n, from, is_checked);
     };
     let edges = graph.successors(n);
     if lead_straight(edges, n) {
-        passages[n as usize] = usual_passage(op, is_checked, Giving::Straight);
+        tell_linked(passages, n, usual_passage(op, Giving::Straight));
         return false;
     }
-    passages[n as usize] = usual_passage(op, is_checked, Giving::AlongEdges);
+    tell_linked(passages, n, usual_passage(op, Giving::AlongEdges));
     leads_away(graph, n, from, edges)
 }
 
@@ -167,6 +174,7 @@ pub(crate) fn tell_run(graph: &Graph, passages: &mut Vec<Passage>, from: u32, be
     requires passages { length passages.old.items ≡ length graph.now.parts.points.items }
     ensures passages { length passages.new.items ≡ length passages.old.items }
     ensures told { (p : Program) → Tells p graph.now.parts → AreToldBelow p passages.old.items from → AreToldBelow p passages.new.items result.end }
+    ensures linked { AreLinked passages.old.items from → AreLinked passages.new.items result.end }
     ensures more { from < result.end }
     ensures within { result.end ≤ length graph.now.parts.points.items }
 {

@@ -180,8 +180,19 @@ impl Slot {
         })
     }
 
-    /// The slot of the state after an operation, where that pushes or pops a word and it is quickly seen that it isn't
-    /// refused.
+    /// The slot of a state that isn't wide after rbp is lost, where that leaves it as it is: the depth and the place where the
+    /// caller's rbp is saved are known, and rbp is no frame pointer.
+    fn without_bp(self) -> Option<Slot>
+        ensures { IfSome result (λ slot. (wide other : NumbersValue) → move (state_in self wide) Op.BpOther ≡ Ok (state_in slot other)) }
+    {
+        match self.shape {
+            Shape::KnownSaved if !self.is_wide => Some(self),
+            _ => None,
+        }
+    }
+
+    /// The slot of the state after an operation, where that pushes or pops a word or loses rbp, and it is quickly seen that it
+    /// isn't refused.
     #[inline(always)]
     pub(crate) fn quickly_moved(self, op: Op) -> Option<Slot>
         ensures { IfSome result (λ slot. (wide other : NumbersValue) → move (state_in self wide) op ≡ Ok (state_in slot other)) }
@@ -189,6 +200,7 @@ impl Slot {
         match op {
             Op::Push | Op::Hop => self.pushed(),
             Op::Pop | Op::Popf => self.popped(),
+            Op::BpOther => self.without_bp(),
             _ => None,
         }
     }

@@ -5,7 +5,7 @@
 //! those of level 0, no point is reached from two batches; so each has the level and the state that it has where states
 //! spread from all points of level 0 at once. Where one does, they spread from all at once, from the beginning.
 
-ghost use Rattle.std.specs.Prelude.{◌≡◌, ◌≢◌, ◌+◌, ◌<◌, ◌≤◌, ◌^◌, ◌↔◌, ℕ, List, [], None, Some, All, Contains, IfOk, IsSome, IsTrue, Ok, length, true};
+ghost use Rattle.std.specs.Prelude.{◌≡◌, ◌≢◌, ◌+◌, ◌<◌, ◌≤◌, ◌↔◌, ℕ, List, [], None, Some, All, Contains, IfOk, IsSome, IsTrue, Ok, length, true};
 ghost use Rattle.state_defs.specs.Move.{has_near_numbers, move};
 ghost use Rattle.state_defs.specs.Row.{unfit_offset};
 ghost use Rattle.machine_defs.specs.Program.{Program, IsPoint};
@@ -15,7 +15,7 @@ ghost use Rattle.program_graph.specs.Tells.{Tells};
 ghost use Rattle.kept_states.specs.Batches.{AreFirst, InBatch, MetNoSettled};
 ghost use Rattle.kept_states.specs.Done.{HaveGivenAll};
 ghost use Rattle.kept_states.specs.LevelStates.{StaysSame, at};
-ghost use Rattle.kept_states.specs.Passages.{ArePassages};
+ghost use Rattle.kept_states.specs.Passages.{AreLinked, ArePassages};
 ghost use Rattle.kept_states.specs.Ranks.{AreSpread};
 ghost use Rattle.kept_states.specs.Told.{HaveGiven};
 
@@ -87,6 +87,7 @@ fn give(graph: &Graph, passages: &[Passage], levels: &mut Levels, i: usize)
     requires points { length levels.old.kept ≡ length graph.now.parts.points.items }
     requires passages { length passages.now ≡ length graph.now.parts.points.items }
     requires told { (p : Program) → Tells p graph.now.parts → ArePassages p passages.now }
+    requires linked { AreLinked passages.now (length passages.now) }
     requires next { length levels.old.next.states ≡ length levels.old.kept }
     requires inside { i < length levels.old.front }
     requires done { (p : Program) → Tells p graph.now.parts → HaveGivenAll p levels.old }
@@ -99,7 +100,7 @@ fn give(graph: &Graph, passages: &[Passage], levels: &mut Levels, i: usize)
     ensures given { (p : Program) → Tells p graph.now.parts → HaveGiven p levels.new (i + 1) }
 {
     let a = levels.front(i);
-    if goes_straight(graph, passages, a) {
+    if goes_straight(passages, a) {
         let lasting = lasting_slot(passages, levels, i, a);
         offer_moved(graph, levels, i, a, lasting, a + 1);
     } else {
@@ -112,6 +113,7 @@ fn give_all(graph: &Graph, passages: &[Passage], levels: &mut Levels)
     requires points { length levels.old.kept ≡ length graph.now.parts.points.items }
     requires passages { length passages.now ≡ length graph.now.parts.points.items }
     requires told { (p : Program) → Tells p graph.now.parts → ArePassages p passages.now }
+    requires linked { AreLinked passages.now (length passages.now) }
     requires next { length levels.old.next.states ≡ length levels.old.kept }
     requires none { (q : ℕ) → at levels.old.next.states q ≡ None }
     requires done { (p : Program) → Tells p graph.now.parts → HaveGivenAll p levels.old }
@@ -168,23 +170,32 @@ fn offer_missing_first(graph: &Graph, passages: &[Passage], levels: &mut Levels,
     }
 }
 
+/// Whether a point isn't special.
+#[inline(always)]
+fn is_ordinary(passages: &[Passage], n: usize) -> bool
+    requires { n < length passages.now }
+    ensures { IsTrue result → (p : Program) → ArePassages p passages.now → state_at p 0 n ≡ None }
+{
+    !passages[n].is_special()
+}
+
 /// Whether none of four neighbouring points is special.
 #[inline(always)]
 fn are_ordinary(passages: &[Passage], n: u32) -> bool
-    requires inside { n + 4 ≤ length passages.now }
-    requires fits { n + 4 < 2 ^ 32 }
+    requires { n + 4 ≤ length passages.now }
     ensures { IsTrue result → (p : Program) → ArePassages p passages.now → (q : ℕ) → n ≤ q → q < n + 4 → state_at p 0 q ≡ None }
 {
-    if passage_at(passages, n).is_special() {
+    let n = n as usize;
+    if !is_ordinary(passages, n) {
         return false;
     }
-    if passage_at(passages, n + 1).is_special() {
+    if !is_ordinary(passages, n + 1) {
         return false;
     }
-    if passage_at(passages, n + 2).is_special() {
+    if !is_ordinary(passages, n + 2) {
         return false;
     }
-    !passage_at(passages, n + 3).is_special()
+    is_ordinary(passages, n + 3)
 }
 
 /// Offers each point its state of level 0 that was offered none yet. Few points are special.
@@ -239,6 +250,7 @@ pub(crate) fn spread_levels(graph: &Graph, passages: &[Passage], levels: &mut Le
     requires points { length levels.old.kept ≡ length graph.now.parts.points.items }
     requires passages { length passages.now ≡ length graph.now.parts.points.items }
     requires told { (p : Program) → Tells p graph.now.parts → ArePassages p passages.now }
+    requires linked { AreLinked passages.now (length passages.now) }
     requires next { length levels.old.next.states ≡ length levels.old.kept }
     requires none { (q : ℕ) → at levels.old.next.states q ≡ None }
     requires front { All (λ q. q < length levels.old.kept) levels.old.front }

@@ -1,5 +1,5 @@
 -- The state in the slot is the one that is kept, and is what its move is.
-use Rattle.std.proofs.Common.{◌≡◌, ◌≢◌, [], ◌∷◌, List, Option, Some, refl, ap, sym, ◌∙◌, subst, rules}
+use Rattle.std.proofs.Common.{◌≡◌, ◌≢◌, [], ◌∷◌, List, Option, refl, ap, sym, ◌∙◌, subst, rules}
 use Rattle.std.specs.Prelude.{IfSome}
 use Rattle.machine_defs.specs.declared.flow.EdgeKind.TheVariants.{Sibling}
 use Rattle.state_defs.specs.declared.state.State.{State}

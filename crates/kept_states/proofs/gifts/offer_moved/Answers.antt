@@ -1,5 +1,5 @@
 -- The state in the slot is the one that is kept, and is what its move is.
-use Rattle.std.proofs.Common.{◌≡◌, [], ◌∷◌, List, Option, Some, refl, ap, sym, ◌∙◌, subst}
+use Rattle.std.proofs.Common.{◌≡◌, [], ◌∷◌, List, Option, refl, ap, sym, ◌∙◌, subst}
 use Rattle.std.specs.Prelude.{IfSome}
 use Rattle.state_defs.specs.declared.state.State.{State}
 use Rattle.state_defs.specs.Move.{move}

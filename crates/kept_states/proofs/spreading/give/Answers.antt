@@ -1,11 +1,10 @@
 -- A state that goes straight on is all that its point gives.
-use Rattle.std.proofs.Common.{◌≡◌, ℕ, ◌+◌, ◌<◌, List, Option, Some, length, take, refl, ap, sym, ◌∙◌, subst, arith}
+use Rattle.std.proofs.Common.{◌≡◌, ℕ, ◌+◌, ◌<◌, List, Option, Some, length, take, sym, ◌∙◌, subst, arith}
 use Rattle.state_defs.specs.declared.state.State.{State}
 use Rattle.state_defs.specs.Move.{move}
 use Rattle.machine_defs.specs.Kept.{moved}
 use Rattle.kept_states.specs.Gives.{IsGiven}
 use Rattle.kept_states.specs.LevelStates.{Offers, at}
-use Rattle.kept_states.specs.Passages.{IsStraight}
 use Rattle.kept_states.specs.Told.{AreLeast, offer_all}
 use Rattle.kept_states.proofs.LevelSteps.{state_of_some}
 use Rattle.kept_states.proofs.Straight.{straight_given}

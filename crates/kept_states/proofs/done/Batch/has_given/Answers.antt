@@ -1,5 +1,4 @@
 -- The place is one of level 0 or one behind the settled points.
-use Rattle.std.proofs.Common.{arith}
 use Rattle.kept_states.proofs.DonePoints.{first_given, later_given}
 use Rattle.kept_states.proofs.done.Batch.has_given.Goals as goal
 

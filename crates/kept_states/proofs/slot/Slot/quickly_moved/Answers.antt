@@ -1,5 +1,5 @@
--- An operation pushes a word or pops one.
-use Rattle.kept_states.proofs.WordMoves.{one_of}
+-- An operation pushes a word or pops one, or loses rbp.
+use Rattle.kept_states.proofs.WordMoves.{just_one, one_of}
 use Rattle.kept_states.proofs.slot.Slot.quickly_moved.Goals as goal
 
 pub returns-in-Push : goal.returns-in-Push
@@ -7,3 +7,6 @@ returns-in-Push c = one_of c.args.self c.pushed.result c.args.op _ _ c.in-Push.i
 
 pub returns-in-Pop : goal.returns-in-Pop
 returns-in-Pop c = one_of c.args.self c.popped.result c.args.op _ _ c.in-Pop.is c.popped.ensures
+
+pub returns-in-BpOther : goal.returns-in-BpOther
+returns-in-BpOther c = just_one c.args.self c.without_bp.result c.args.op _ c.in-BpOther.is c.without_bp.ensures
