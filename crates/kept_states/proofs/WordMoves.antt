@@ -3,9 +3,9 @@ use Rattle.std.proofs.Common.{◌≡◌, true, false, ℤ, SFits, w16, to_z, of_
 use Rattle.std.specs.Prelude.{IfSome, pos, negsuc, int_lt, ◌+ℤ◌, ◌-ℤ◌}
 use Rattle.std.proofs.lemmas.Int.{ints, to_z-of_z}
 use Rattle.operation_defs.specs.declared.op.Op.{Op}
-use Rattle.operation_defs.specs.declared.op.Op.TheVariants.{Push, Hop, Pop, Popf, BpOther}
+use Rattle.operation_defs.specs.declared.op.Op.TheVariants.{Push, Hop, PushBp, Pop, PopBp, Popf, BpOther}
 use Rattle.state_defs.specs.declared.state.State.{State}
-use Rattle.state_defs.specs.Move.{has_near_numbers, move, to}
+use Rattle.state_defs.specs.Move.{has_near_numbers, int_same, move, to}
 use Rattle.state_defs.specs.Row.{has_16_bits}
 use Rattle.kept_states.specs.declared.parts.Numbers.{Numbers}
 use Rattle.kept_states.specs.declared.parts.Shape.{Shape}
@@ -108,6 +108,24 @@ pop_slot s t wide other live m over =
 -- where rbp is lost, a state that doesn't have it as a frame pointer stays as it is
 pub lose_bp_slot : (s : Slot) (wide other : Numbers) → s.is_wide ≡ false → s.shape ≡ KnownSaved → has_16_bits s.depth ≡ true → has_16_bits s.fp ≡ true → has_16_bits s.home ≡ true → move (state_in s wide) BpOther ≡ Ok (state_in s other)
 lose_bp_slot s wide other short shape d f h = rw (short, shape) (to_near (with_numbers KnownSaved (short_numbers s)) (short_is_near KnownSaved (short_numbers s) (near_of s.depth d) (near_of s.fp f) (near_of s.home h)))
+
+-- where rbp is pushed first, the caller's is saved there
+pub push_bp_slot : (s t : Slot) (wide other : Numbers) → s.is_wide ≡ false → s.shape ≡ Known → t.is_wide ≡ false → t.shape ≡ KnownSaved → t.depth ≡ s.depth +ℤ pos 8 → t.home ≡ s.depth +ℤ pos 8 → SFits w16 (s.depth +ℤ pos 8) → move (state_in s wide) PushBp ≡ Ok (state_in t other)
+push_bp_slot s t wide other short shape t_short t_shape depth home fits =
+    let n : Numbers = record { depth = s.depth +ℤ pos 8; fp = s.depth +ℤ pos 8; home = s.depth +ℤ pos 8 } in
+    let near = near_of (s.depth +ℤ pos 8) (in_16_bits (s.depth +ℤ pos 8) fits) in
+    rw (short, shape, t_short, t_shape, depth, home) (to_near (with_numbers KnownSaved n) (short_is_near KnownSaved n near near near))
+
+same_int : (x y : ℤ) → x ≡ y → int_same x y ≡ true
+same_int x y e = grind (arith, ints)
+
+-- where rbp is popped from where the caller's is saved, it isn't saved any more
+pub pop_bp_slot : (s t : Slot) (wide other : Numbers) → s.is_wide ≡ false → s.shape ≡ KnownSaved → s.depth ≡ s.home → t.is_wide ≡ false → t.shape ≡ Known → t.depth ≡ s.depth -ℤ pos 8 → SFits w16 (s.depth -ℤ pos 8) → move (state_in s wide) PopBp ≡ Ok (state_in t other)
+pop_bp_slot s t wide other short shape home t_short t_shape depth fits =
+    let n : Numbers = record { depth = s.depth -ℤ pos 8; fp = s.depth -ℤ pos 8; home = s.depth -ℤ pos 8 } in
+    let near = near_of (s.depth -ℤ pos 8) (in_16_bits (s.depth -ℤ pos 8) fits) in
+    let same : int_same s.depth s.home ≡ true = same_int s.depth s.home home in
+    rw (short, shape, t_short, t_shape, depth) (rw same (to_near (with_numbers Known n) (short_is_near Known n near near near)))
 
 eight_fits : SFits w16 (pos 8)
 eight_fits = grind (arith, ints)

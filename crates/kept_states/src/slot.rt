@@ -180,6 +180,50 @@ impl Slot {
         })
     }
 
+    /// The slot of a state that isn't wide after rbp is pushed, where the depth is known, the caller's rbp isn't saved yet, and
+    /// rbp is no frame pointer.
+    fn with_bp(self) -> Option<Slot>
+        ensures { IfSome result (λ slot. (wide other : NumbersValue) → move (state_in self wide) Op.PushBp ≡ Ok (state_in slot other)) }
+    {
+        if self.is_wide || self.depth > i16::MAX - WORD {
+            return None;
+        }
+        let depth = self.depth + WORD;
+        match self.shape {
+            Shape::Known => Some(Slot {
+                shape: Shape::KnownSaved,
+                is_wide: false,
+                depth,
+                fp: 0,
+                home: depth,
+            }),
+            _ => None,
+        }
+    }
+
+    /// The slot of a state that isn't wide after rbp is popped, where the depth is known, and the caller's rbp is saved there.
+    fn with_callers_bp(self) -> Option<Slot>
+        ensures { IfSome result (λ slot. (wide other : NumbersValue) → move (state_in self wide) Op.PopBp ≡ Ok (state_in slot other)) }
+    {
+        if self.is_wide || self.depth < i16::MIN + WORD {
+            return None;
+        }
+        if self.depth != self.home {
+            return None;
+        }
+        let depth = self.depth - WORD;
+        match self.shape {
+            Shape::KnownSaved => Some(Slot {
+                shape: Shape::Known,
+                is_wide: false,
+                depth,
+                fp: 0,
+                home: 0,
+            }),
+            _ => None,
+        }
+    }
+
     /// The slot of a state that isn't wide after rbp is lost, where that leaves it as it is: the depth and the place where the
     /// caller's rbp is saved are known, and rbp is no frame pointer.
     fn without_bp(self) -> Option<Slot>
@@ -191,7 +235,7 @@ impl Slot {
         }
     }
 
-    /// The slot of the state after an operation, where that pushes or pops a word or loses rbp, and it is quickly seen that it
+    /// The slot of the state after an operation, where that pushes or pops a word, or pushes, pops or loses rbp, and it is quickly seen that it
     /// isn't refused.
     #[inline(always)]
     pub(crate) fn quickly_moved(self, op: Op) -> Option<Slot>
@@ -201,6 +245,8 @@ impl Slot {
             Op::Push | Op::Hop => self.pushed(),
             Op::Pop | Op::Popf => self.popped(),
             Op::BpOther => self.without_bp(),
+            Op::PushBp => self.with_bp(),
+            Op::PopBp => self.with_callers_bp(),
             _ => None,
         }
     }

@@ -1,4 +1,4 @@
--- An operation pushes a word or pops one, or loses rbp.
+-- An operation pushes a word or pops one, or pushes, pops or loses rbp.
 use Rattle.kept_states.proofs.WordMoves.{just_one, one_of}
 use Rattle.kept_states.proofs.slot.Slot.quickly_moved.Goals as goal
 
@@ -10,3 +10,9 @@ returns-in-Pop c = one_of c.args.self c.popped.result c.args.op _ _ c.in-Pop.is 
 
 pub returns-in-BpOther : goal.returns-in-BpOther
 returns-in-BpOther c = just_one c.args.self c.without_bp.result c.args.op _ c.in-BpOther.is c.without_bp.ensures
+
+pub returns-in-PushBp : goal.returns-in-PushBp
+returns-in-PushBp c = just_one c.args.self c.with_bp.result c.args.op _ c.in-PushBp.is c.with_bp.ensures
+
+pub returns-in-PopBp : goal.returns-in-PopBp
+returns-in-PopBp c = just_one c.args.self c.with_callers_bp.result c.args.op _ c.in-PopBp.is c.with_callers_bp.ensures
