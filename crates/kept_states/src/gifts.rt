@@ -61,8 +61,8 @@ fn offer_stepped(graph: &Graph, levels: &mut Levels, i: usize, from: u32, to: u3
     }
 }
 
-/// Offers a point the state of the one at a place in front, moved by its operation, if that isn't refused. It is quickly seen
-/// where the operation pushes or pops a word.
+/// Offers a point the state of the one at a place in front, moved by its operation, if that isn't refused. Most moves are
+/// quickly seen not to be.
 #[inline(never)]
 fn offer_changed(graph: &Graph, levels: &mut Levels, i: usize, from: u32, to: u32)
     requires points { length levels.old.kept ≡ length graph.now.parts.points.items }
@@ -160,7 +160,7 @@ fn bring_changed(graph: &Graph, levels: &mut Levels, i: usize, from: u32, edge: 
 }
 
 /// Offers the point at an edge's end what the one at a place in front brings along it. Where its operation leaves its state as
-/// it is, the slot that it is in may be given: then that is brought along all edges but those to another function.
+/// it is, the slot that it is in may be given: that is brought along all edges but those to another function.
 #[inline(always)]
 fn bring_along(
     graph: &Graph,
