@@ -180,6 +180,26 @@ impl Slot {
         })
     }
 
+    /// The slot of a live state that isn't wide, after rsp is raised by a number, or lowered where that is negative.
+    fn raised(self, by: i64) -> Option<Slot>
+        ensures { IfSome result (λ slot. (wide other : NumbersValue) → move (state_in self wide) (Op.AddSp by) ≡ Ok (state_in slot other)) }
+    {
+        if self.is_wide || !is_live(self.shape) || !has_16_bits(by) {
+            return None;
+        }
+        let depth = self.depth as i64 - by;
+        if !has_16_bits(depth) || depth < floor(self.shape, self.home) as i64 {
+            return None;
+        }
+        Some(Slot {
+            shape: self.shape,
+            is_wide: false,
+            depth: depth as i16,
+            fp: self.fp,
+            home: self.home,
+        })
+    }
+
     /// The slot of a state that isn't wide after rbp is pushed, where the depth is known, the caller's rbp isn't saved yet, and
     /// rbp is no frame pointer.
     fn with_bp(self) -> Option<Slot>
@@ -235,8 +255,8 @@ impl Slot {
         }
     }
 
-    /// The slot of the state after an operation, where that pushes or pops a word, or pushes, pops or loses rbp, and it is quickly seen that it
-    /// isn't refused.
+    /// The slot of the state after an operation, where that pushes or pops, adds to rsp or loses rbp, and it is quickly seen that
+    /// it isn't refused.
     #[inline(always)]
     pub(crate) fn quickly_moved(self, op: Op) -> Option<Slot>
         ensures { IfSome result (λ slot. (wide other : NumbersValue) → move (state_in self wide) op ≡ Ok (state_in slot other)) }
@@ -245,6 +265,7 @@ impl Slot {
             Op::Push | Op::Hop => self.pushed(),
             Op::Pop | Op::Popf => self.popped(),
             Op::BpOther => self.without_bp(),
+            Op::AddSp { by } => self.raised(by),
             Op::PushBp => self.with_bp(),
             Op::PopBp => self.with_callers_bp(),
             _ => None,

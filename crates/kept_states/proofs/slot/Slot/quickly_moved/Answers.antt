@@ -1,4 +1,7 @@
--- An operation pushes a word or pops one, or pushes, pops or loses rbp.
+-- An operation pushes a word or pops one, adds to rsp, or loses rbp.
+use Rattle.std.proofs.Common.{rules, SFits, w64, ap, sym, ◌∙◌}
+use Rattle.std.proofs.lemmas.Int.{to_z-of_z}
+use Rattle.operation_defs.specs.declared.op.Op.TheVariants.{AddSp}
 use Rattle.kept_states.proofs.WordMoves.{just_one, one_of}
 use Rattle.kept_states.proofs.slot.Slot.quickly_moved.Goals as goal
 
@@ -16,3 +19,8 @@ returns-in-PushBp c = just_one c.args.self c.with_bp.result c.args.op _ c.in-Pus
 
 pub returns-in-PopBp : goal.returns-in-PopBp
 returns-in-PopBp c = just_one c.args.self c.with_callers_bp.result c.args.op _ c.in-PopBp.is c.with_callers_bp.ensures
+
+pub returns-in-AddSp : goal.returns-in-AddSp
+returns-in-AddSp c =
+    let fits : SFits w64 c.in-AddSp.by = search rules in
+    just_one c.args.self c.raised.result c.args.op _ (c.in-AddSp.is ∙ ap AddSp (sym (to_z-of_z w64 c.in-AddSp.by fits))) c.raised.ensures
