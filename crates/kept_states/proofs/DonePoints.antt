@@ -1,5 +1,5 @@
 -- What points have given that have given in a batch.
-use Rattle.std.proofs.Common.{◌≡◌, ℕ, zero, suc, ◌+◌, ◌-◌, ◌<◌, ◌≤◌, ◌++◌, ◌⊎◌, inl, inr, true, false, List, [], ◌∷◌, Bool, Option, Some, None, Result, Ok, IsSome, Contains, length, take, drop, get_or, refl, ap, sym, ◌∙◌, subst, arith}
+use Rattle.std.proofs.Common.{◌≡◌, ℕ, zero, suc, ◌+◌, ◌-◌, ◌<◌, ◌≤◌, ◌++◌, ◌⊎◌, inl, inr, true, false, List, [], ◌∷◌, Bool, Option, Some, None, Result, Ok, IsSome, Contains, length, take, drop, get_or, if◌then◌else◌, nat_lt, refl, ap, sym, ◌∙◌, subst, arith}
 use Rattle.std.proofs.lemmas.List.{length-take-le, length-drop, get_or-take, get_or-drop, take_all}
 use Rattle.std.proofs.lemmas.Grind.{get_or_default_zero}
 use Rattle.std.proofs.lemmas.List.Elements.{Contains-append_left, Contains-append_right, Contains-append_cases}
@@ -13,10 +13,11 @@ use Rattle.machine_defs.specs.Program.{Program, IsPoint}
 use Rattle.machine_defs.specs.Kept.{Brings, brought_along, edges_of, is_free, kept_or, moved}
 use Rattle.unwinding_law.proofs.Lists.{cases, here, nowhere}
 use Rattle.unwinding_law.proofs.KeptStates.{brings_along, brings_edge}
-use Rattle.kept_states.specs.declared.done.Done.{Done}
+use Rattle.kept_states.specs.declared.done.Batch.{Batch}
 use Rattle.kept_states.specs.Done.{HaveGivenAll, IsBroughtInVain, IsLeftAside, done_of}
 use Rattle.kept_states.specs.Gives.{Gives, IsGiven}
 use Rattle.kept_states.specs.LevelStates.{LevelStates, Offers, StaysSame, at, is_settled}
+use Rattle.kept_states.specs.Reached.{AreOrdered}
 use Rattle.kept_states.specs.Told.{AreLeast, HaveGiven}
 use Rattle.kept_states.proofs.Firsts.{in_drop}
 use Rattle.kept_states.proofs.LevelSteps.{is_some_of, least_some, some_state, state_of_some}
@@ -62,38 +63,68 @@ front_before xs from to n place h k low high =
       ),
     )
 
--- no element is between a place and itself
-pub empty_range : {X : Type 0} (xs : List X) (n : ℕ) → drop n (take n xs) ≡ []
-empty_range xs zero = refl
-empty_range [] (suc n) = refl
-empty_range (x ∷ xs) (suc n) = empty_range xs n
+-- between a place and one before it
+empty_before : {X : Type 0} (xs : List X) (n m : ℕ) → m ≤ n → drop n (take m xs) ≡ []
+empty_before xs zero zero h = refl
+empty_before xs zero (suc m) h = absurd (omega (arith, h))
+empty_before [] (suc n) zero h = refl
+empty_before [] (suc n) (suc m) h = refl
+empty_before (x ∷ xs) (suc n) zero h = refl
+empty_before (x ∷ xs) (suc n) (suc m) h = empty_before xs n m (omega (arith, h))
 
--- of places that have given, those of level 0 and those behind the settled ones
-pub first_has : (settled : ℕ) (done : Done) (reached : List ℕ) (place : ℕ) → done.first_from ≤ place → place < done.first_to → done.first_to ≤ length reached → Contains (done_of settled done reached) (get_or reached place 0)
-first_has settled done reached place low high h =
+-- as long as those of level 0 are in front none has given
+none_before : (front settled : ℕ) (xs : List ℕ) → (settled ≤ front → xs ≡ []) → (if nat_lt front settled then [] else xs) ≡ []
+none_before front settled xs h = elim (within front settled) [ inl l ↦ (let e : nat_lt front settled ≡ true = grind arith in rw e refl) | inr l ↦ (let e : nat_lt front settled ≡ false = grind arith in rw e (h l)) ]
+
+pub none_given : (settled from to : ℕ) (reached : List ℕ) → from ≤ to → to ≤ settled → done_of settled from (record { from = from; to = to }) reached ≡ []
+none_given settled from to reached l m = none_before from settled (drop from (take to reached) ++ drop settled (take from reached)) (λ e.
+    let first : drop from (take to reached) ≡ [] = empty_before reached from to (omega (arith, e, m)) in
+    let later : drop settled (take from reached) ≡ [] = empty_before reached settled from (omega (arith, l, m)) in
+    rw (first, later) refl)
+
+-- those of level 0 have given later on, and those behind the settled ones
+pub first_given : (settled front : ℕ) (batch : Batch) (reached : List ℕ) (place : ℕ) → settled ≤ front → batch.from ≤ place → place < batch.to → batch.to ≤ length reached → Contains (done_of settled front batch reached) (get_or reached place 0)
+first_given settled front batch reached place on low high h =
+    let going : nat_lt front settled ≡ false = grind arith in
     let e : get_or reached place (get_or reached place 0) ≡ get_or reached place 0 = get_or_default_zero reached place (get_or reached place 0) (omega (arith, high, h)) in
-    Contains-append_left (drop done.first_from (take done.first_to reached)) (drop settled (take done.later_to reached)) (get_or reached place 0) (in_range reached done.first_from done.first_to place (get_or reached place 0) low high h e)
+    rw going (Contains-append_left (drop batch.from (take batch.to reached)) (drop settled (take front reached)) (get_or reached place 0) (in_range reached batch.from batch.to place (get_or reached place 0) low high h e))
 
-pub later_has : (settled : ℕ) (done : Done) (reached : List ℕ) (place : ℕ) → settled ≤ place → place < done.later_to → done.later_to ≤ length reached → Contains (done_of settled done reached) (get_or reached place 0)
-later_has settled done reached place low high h =
+pub later_given : (settled front : ℕ) (batch : Batch) (reached : List ℕ) (place : ℕ) → settled ≤ front → settled ≤ place → place < front → front ≤ length reached → Contains (done_of settled front batch reached) (get_or reached place 0)
+later_given settled front batch reached place on low high h =
+    let going : nat_lt front settled ≡ false = grind arith in
     let e : get_or reached place (get_or reached place 0) ≡ get_or reached place 0 = get_or_default_zero reached place (get_or reached place 0) (omega (arith, high, h)) in
-    Contains-append_right (drop done.first_from (take done.first_to reached)) (drop settled (take done.later_to reached)) (get_or reached place 0) (in_range reached settled done.later_to place (get_or reached place 0) low high h e)
+    rw going (Contains-append_right (drop batch.from (take batch.to reached)) (drop settled (take front reached)) (get_or reached place 0) (in_range reached settled front place (get_or reached place 0) low high h e))
 
--- more places, right behind those of later levels, or of level 0
-pub more_later : (settled from to : ℕ) (done : Done) (reached : List ℕ) (q : ℕ) → from ≡ done.later_to → done.later_to ≤ length reached → to ≤ length reached → Contains (drop done.first_from (take done.first_to reached) ++ drop settled (take to reached)) q → Contains (done_of settled done reached) q ⊎ Contains (drop from (take to reached)) q
-more_later settled from to done reached q e h k c = elim (Contains-append_cases (drop done.first_from (take done.first_to reached)) (drop settled (take to reached)) q c) [
-  | inl a ↦ inl (Contains-append_left (drop done.first_from (take done.first_to reached)) (drop settled (take done.later_to reached)) q a)
-  | inr b ↦ elim (part_more reached settled done.later_to to q h k b) [
-    | inl a ↦ inl (Contains-append_right (drop done.first_from (take done.first_to reached)) (drop settled (take done.later_to reached)) q a)
-    | inr d ↦ inr (subst (λ (n : ℕ). Contains (drop n (take to reached)) q) (sym e) d)
-  ]
-]
+-- those in front have given when the next ones are
+given_later : (b : Bool) (xs : List ℕ) (q : ℕ) → Contains (if b then [] else xs) q → Contains xs q
+given_later true xs q c = nowhere q c
+given_later false xs q c = c
 
-pub more_first : (settled from to : ℕ) (done : Done) (reached : List ℕ) (q : ℕ) → Contains (drop from (take to reached) ++ drop settled (take done.later_to reached)) q → Contains (done_of settled done reached) q ⊎ Contains (drop from (take to reached)) q
-more_first settled from to done reached q c = elim (Contains-append_cases (drop from (take to reached)) (drop settled (take done.later_to reached)) q c) [
-  | inl a ↦ inr a
-  | inr b ↦ inl (Contains-append_right (drop done.first_from (take done.first_to reached)) (drop settled (take done.later_to reached)) q b)
-]
+pub front_given : (front_from front_to : ℕ) (batch : Batch) (first settled kept : ℕ) (reached : List ℕ) (q : ℕ) → AreOrdered front_from front_to batch first settled kept → kept ≤ length reached → Contains (done_of settled kept batch reached) q → Contains (done_of settled front_from batch reached) q ⊎ Contains (drop front_from (take front_to reached)) q
+front_given front_from front_to batch first settled kept reached q order few c = elim (within front_from settled) [ inl l ↦ begun l | inr l ↦ going l ]
+  where
+    parts : Contains (drop batch.from (take batch.to reached)) q ⊎ Contains (drop settled (take kept reached)) q
+    parts = Contains-append_cases (drop batch.from (take batch.to reached)) (drop settled (take kept reached)) q (given_later (nat_lt kept settled) (drop batch.from (take batch.to reached) ++ drop settled (take kept reached)) q c)
+
+    begun : front_from < settled → Contains (done_of settled front_from batch reached) q ⊎ Contains (drop front_from (take front_to reached)) q
+    begun l =
+        let are = order.begins l in
+        elim parts [
+          | inl a ↦ inr (subst (λ (n : ℕ). Contains (drop n (take front_to reached)) q) are.0 (subst (λ (n : ℕ). Contains (drop batch.from (take n reached)) q) are.1 a))
+          | inr b ↦ nowhere q (subst (λ (xs : List ℕ). Contains xs q) (empty_before reached settled kept (omega (arith, are.2))) b)
+        ]
+
+    going : settled ≤ front_from → Contains (done_of settled front_from batch reached) q ⊎ Contains (drop front_from (take front_to reached)) q
+    going l =
+        let on : nat_lt front_from settled ≡ false = grind arith in
+        let all : front_to ≡ kept = order.goes_on l in
+        elim parts [
+          | inl a ↦ inl (rw on (Contains-append_left (drop batch.from (take batch.to reached)) (drop settled (take front_from reached)) q a))
+          | inr b ↦ elim (part_more reached settled front_from kept q (omega (arith, order.front_in, all, few)) few b) [
+            | inl a ↦ inl (rw on (Contains-append_right (drop batch.from (take batch.to reached)) (drop settled (take front_from reached)) q a))
+            | inr d ↦ inr (subst (λ (n : ℕ). Contains (drop front_from (take n reached)) q) (sym all) d)
+          ]
+        ]
 
 one : (s u : State) → Contains (s ∷ []) u → u ≡ s
 one s u c = elim (cases s [] u c) [ inl e ↦ sym e | inr n ↦ nowhere u n ]

@@ -1,9 +1,17 @@
 -- How states pass points, told of one after another.
-use Rattle.std.proofs.Common.{◌≡◌, ◌≢◌, ℕ, ◌+◌, ◌<◌, ◌&&◌, Bool, true, false, not, inl, inr, List, [], if◌then◌else◌, length, get_or, set, refl, sym, subst, arith}
+use Rattle.std.proofs.Common.{◌≡◌, ◌≢◌, ℕ, ◌+◌, ◌^◌, ◌<◌, ◌&&◌, Bool, true, false, not, Option, inl, inr, All, List, [], ◌∷◌, None, if◌then◌else◌, length, get_or, set, refl, sym, subst, arith, length-set}
 use Rattle.std.proofs.lemmas.List.{get_or-set_same, get_or-set_other}
+use Rattle.state_defs.specs.declared.state.State.{State}
 use Rattle.machine_defs.specs.Program.{Program}
+use Rattle.machine_defs.specs.declared.flow.Edge.{Edge}
+use Rattle.machine_defs.specs.declared.flow.EdgeKind.{EdgeKind}
+use Rattle.machine_defs.specs.declared.flow.EdgeKind.TheVariants.{Next, Taken, Fixup, Table, Sibling}
+use Rattle.operation_defs.specs.declared.op.Op.{Op}
+use Rattle.state_defs.specs.Move.{move}
+use Rattle.machine_defs.specs.Kept.{brought_along, is_at_entry, moved, state_at}
 use Rattle.kept_states.specs.declared.passages.Passage.{Passage}
-use Rattle.kept_states.specs.Passages.{AreToldBelow, IsPassage}
+use Rattle.kept_states.specs.declared.passages.Giving.TheVariants.{Straight}
+use Rattle.kept_states.specs.Passages.{AreLinked, AreToldBelow, IsPassage, next_edge}
 use Rattle.kept_states.proofs.Places.{same_or_not}
 
 -- one more point is told of
@@ -16,6 +24,31 @@ told_more p passages n passage inside own told k d less = elim (same_or_not n k)
     below : k ≢ n → k < n
     below differ = elim (same_or_not n k) [ inl e ↦ absurd (differ e) | inr other ↦ (let h = other in grind arith) ]
 
+-- one more that states come in at, or that no point before it gives to alone
+pub linked_more : (passages : List Passage) (n : ℕ) (passage : Passage) → n < length passages → (passage.giving ≡ Straight → (n + 1 < 2 ^ 32) × (n + 1 < length passages)) → ((k : ℕ) (d : Passage) → k + 1 ≡ n → (get_or passages k d).giving ≡ Straight → passage.is_open ≡ true)
+    → AreLinked passages n → AreLinked (set passages n passage) (n + 1)
+linked_more passages n passage inside own before linked k d less straight = elim (same_or_not n k) [
+  | inl e ↦ last e
+  | inr differ ↦ (let old = linked k d (below differ) (subst (λ (x : Passage). x.giving ≡ Straight) (get_or-set_other passages n k passage d differ) straight) in
+      (old.0, rw (length-set) old.1, λ next. opens differ old.2 next))
+]
+  where
+    below : k ≢ n → k < n
+    below differ = let h = less in omega (arith, h, differ)
+
+    last : k ≡ n → (k + 1 < 2 ^ 32) × (k + 1 < length (set passages n passage)) × (k + 1 < n + 1 → (get_or (set passages n passage) (k + 1) d).is_open ≡ true)
+    last e =
+        let here : get_or (set passages n passage) k d ≡ passage = subst (λ (m : ℕ). get_or (set passages n passage) m d ≡ passage) (sym e) (get_or-set_same passages n passage d inside) in
+        let is = own (subst (λ (x : Passage). x.giving ≡ Straight) here straight) in
+        (omega (arith, is.0, e), rw (length-set) (omega (arith, is.1, e)), λ next. absurd (omega (arith, next, e)))
+
+    opens : k ≢ n → (k + 1 < n → (get_or passages (k + 1) d).is_open ≡ true) → k + 1 < n + 1 → (get_or (set passages n passage) (k + 1) d).is_open ≡ true
+    opens differ old next = elim (same_or_not n (k + 1)) [
+      | inl e ↦ subst (λ (x : Passage). x.is_open ≡ true) (sym (subst (λ (m : ℕ). get_or (set passages n passage) m d ≡ passage) (sym e) (get_or-set_same passages n passage d inside)))
+          (before k d e (subst (λ (x : Passage). x.giving ≡ Straight) (get_or-set_other passages n k passage d differ) straight))
+      | inr other ↦ subst (λ (x : Passage). x.is_open ≡ true) (sym (get_or-set_other passages n (k + 1) passage d other)) (old (omega (arith, next, other)))
+    ]
+
 pub open_gives : {X : Type 0} (unchecked free : Bool) (gifts : List X) → (not unchecked && free) ≡ true → (if unchecked then [] else (if free then gifts else [])) ≡ gifts
 open_gives false true gifts h = refl
 open_gives false false gifts h = absurd (let bad : false ≡ true = h in cc)
@@ -25,3 +58,23 @@ pub closed_gives_none : {X : Type 0} (unchecked free : Bool) (gifts : List X) �
 closed_gives_none true free gifts h = refl
 closed_gives_none false false gifts h = refl
 closed_gives_none false true gifts h = absurd (let bad : true ≡ false = h in cc)
+
+no_state : (unchecked : Bool) (state : Option State) → state ≡ None → (if unchecked then None else state) ≡ None
+no_state true state h = refl
+no_state false state h = h
+
+-- a point that has no hint, and where no control stands that comes to an entry, isn't of level 0
+pub not_first : (p : Program) (n : ℕ) → p.hint n ≡ None → is_at_entry p n ≡ false → state_at p 0 n ≡ None
+not_first p n hint entry = rw hint (rw entry (no_state (p.unchecked n) None refl))
+
+-- a state that the operation leaves as it is goes along all edges but those to another function
+pub brought_same : (s t : State) (op : Op) (kind : EdgeKind) → kind ≢ Sibling → moved (move s op) ≡ t ∷ [] → s ≡ t → brought_along s op kind ≡ t ∷ []
+brought_same s t op Next other e same = e
+brought_same s t op Taken other e same = e
+brought_same s t op Fixup other e same = rw same refl
+brought_same s t op Table other e same = e
+brought_same s t op Sibling other e same = absurd (other refl)
+
+-- a Next to the next point leads to one that there is
+pub next_inside : (edges : List Edge) (n points : ℕ) → edges ≡ next_edge n ∷ [] → All (λ e. e.to < points) edges → n + 1 < points
+next_inside edges n points e within = (subst (λ (es : List Edge). All (λ e. e.to < points) es) e within) 0 (next_edge n) (omega arith)

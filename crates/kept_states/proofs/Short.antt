@@ -15,7 +15,7 @@ use Rattle.kept_states.specs.Packed.{short_numbers, state_in, with_numbers}
 pub in_16_bits : (n : ℤ) → SFits w16 n → has_16_bits n ≡ true
 in_16_bits n fits = grind (arith, ints)
 
-fits_16 : (n : ℤ) → has_16_bits n ≡ true → SFits w16 n
+pub fits_16 : (n : ℤ) → has_16_bits n ≡ true → SFits w16 n
 fits_16 n e = grind (arith, ints)
 
 -- what is written in 16 bits and read back

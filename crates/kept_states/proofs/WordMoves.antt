@@ -1,11 +1,11 @@
 -- Where a word is pushed or popped, a live state keeps its shape.
-use Rattle.std.proofs.Common.{◌≡◌, true, false, ℤ, SFits, w16, to_z, of_z, Option, Some, None, Ok, ◌⊎◌, inl, inr, refl, ap, sym, subst, ◌∙◌, arith}
+use Rattle.std.proofs.Common.{◌≡◌, true, false, ℤ, SFits, w16, w64, to_z, of_z, Option, Some, None, Ok, ◌⊎◌, inl, inr, refl, ap, sym, subst, ◌∙◌, arith}
 use Rattle.std.specs.Prelude.{IfSome, pos, negsuc, int_lt, ◌+ℤ◌, ◌-ℤ◌}
 use Rattle.std.proofs.lemmas.Int.{ints, to_z-of_z}
 use Rattle.operation_defs.specs.declared.op.Op.{Op}
-use Rattle.operation_defs.specs.declared.op.Op.TheVariants.{Push, Hop, Pop, Popf}
+use Rattle.operation_defs.specs.declared.op.Op.TheVariants.{Push, Hop, AddSp, PushBp, Pop, PopBp, Popf, BpOther}
 use Rattle.state_defs.specs.declared.state.State.{State}
-use Rattle.state_defs.specs.Move.{has_near_numbers, move, to}
+use Rattle.state_defs.specs.Move.{has_near_numbers, int_same, move, to}
 use Rattle.state_defs.specs.Row.{has_16_bits}
 use Rattle.kept_states.specs.declared.parts.Numbers.{Numbers}
 use Rattle.kept_states.specs.declared.parts.Shape.{Shape}
@@ -66,6 +66,20 @@ read_down n fits e =
     let same : to_z w16 (of_z w16 n) ≡ n = to_z-of_z w16 n fits in
     ap (λ (m : ℤ). to_z w16 (of_z w16 (m -ℤ pos 8))) same ∙ to_z-of_z w16 (n -ℤ pos 8) (down_fits n fits (subst (λ (m : ℤ). int_lt m (negsuc 32759) ≡ false) same e))
 
+wide_fits : (n : ℤ) → SFits w16 n → SFits w64 n
+wide_fits n fits = grind (arith, ints)
+
+less_fits : (n k : ℤ) → SFits w16 n → has_16_bits k ≡ true → SFits w64 (n -ℤ k)
+less_fits n k fits short = grind (arith, ints)
+
+pub read_wide : (n : ℤ) → SFits w16 n → to_z w64 (of_z w64 (to_z w16 (of_z w16 n))) ≡ n
+read_wide n fits = ap (λ (m : ℤ). to_z w64 (of_z w64 m)) (to_z-of_z w16 n fits) ∙ to_z-of_z w64 n (wide_fits n fits)
+
+pub read_less : (n k : ℤ) → SFits w16 n → SFits w64 k → has_16_bits k ≡ true → to_z w64 (of_z w64 (to_z w64 (of_z w64 (to_z w16 (of_z w16 n))) -ℤ to_z w64 (of_z w64 k))) ≡ n -ℤ k
+read_less n k fits k_fits short =
+    ap (λ (m : ℤ). to_z w64 (of_z w64 (m -ℤ to_z w64 (of_z w64 k)))) (read_wide n fits)
+    ∙ (ap (λ (m : ℤ). to_z w64 (of_z w64 (n -ℤ m))) (to_z-of_z w64 k k_fits) ∙ to_z-of_z w64 (n -ℤ k) (less_fits n k fits short))
+
 -- one slot has what another one has, but for the depth
 pub record IsMoved (s t : Slot) (moved : ℤ) : Type 0 where
   pub short : s.is_wide ≡ false
@@ -105,10 +119,51 @@ pop_slot s t wide other live m over =
     let new = moved_state s t (s.depth -ℤ pos 8) other m in
     (same_move _ _ _ _ Pop old new both.0, same_move _ _ _ _ Popf old new both.1)
 
+pub raise_sp : (shape : Shape) (n : Numbers) (k : ℤ) → is_live shape ≡ true → int_lt (n.depth -ℤ k) (floor_in shape n.home) ≡ false → has_near_numbers (with_numbers shape (at_depth n (n.depth -ℤ k))) ≡ true → move (with_numbers shape n) (AddSp k) ≡ Ok (with_numbers shape (at_depth n (n.depth -ℤ k)))
+raise_sp Known n k l over near = rw over (to_near _ near)
+raise_sp KnownSaved n k l over near = rw over (to_near _ near)
+raise_sp KnownFramed n k l over near = rw over (to_near _ near)
+raise_sp KnownFramedSaved n k l over near = rw over (to_near _ near)
+raise_sp AtLeast n k l over near = rw over (to_near _ near)
+raise_sp AtLeastSaved n k l over near = rw over (to_near _ near)
+raise_sp AtLeastFramed n k l over near = rw over (to_near _ near)
+raise_sp AtLeastFramedSaved n k l over near = rw over (to_near _ near)
+raise_sp Undefined n k l over near = absurd (let z : ⊥ = cc in z)
+raise_sp EndOfStack n k l over near = absurd (let z : ⊥ = cc in z)
+raise_sp Regs n k l over near = absurd (let z : ⊥ = cc in z)
+raise_sp FullRegs n k l over near = absurd (let z : ⊥ = cc in z)
+
+pub raise_slot : (s t : Slot) (wide other : Numbers) (k : ℤ) → is_live s.shape ≡ true → IsMoved s t (s.depth -ℤ k) → int_lt (s.depth -ℤ k) (floor_in s.shape s.home) ≡ false → move (state_in s wide) (AddSp k) ≡ Ok (state_in t other)
+raise_slot s t wide other k live m over =
+    let one = raise_sp s.shape (short_numbers s) k live over (moved_near s t (s.depth -ℤ k) m) in
+    same_move _ _ _ _ (AddSp k) (old_state s wide m.short) (moved_state s t (s.depth -ℤ k) other m) one
+
+-- where rbp is lost, a state that doesn't have it as a frame pointer stays as it is
+pub lose_bp_slot : (s : Slot) (wide other : Numbers) → s.is_wide ≡ false → s.shape ≡ KnownSaved → has_16_bits s.depth ≡ true → has_16_bits s.fp ≡ true → has_16_bits s.home ≡ true → move (state_in s wide) BpOther ≡ Ok (state_in s other)
+lose_bp_slot s wide other short shape d f h = rw (short, shape) (to_near (with_numbers KnownSaved (short_numbers s)) (short_is_near KnownSaved (short_numbers s) (near_of s.depth d) (near_of s.fp f) (near_of s.home h)))
+
+-- where rbp is pushed first, the caller's is saved there
+pub push_bp_slot : (s t : Slot) (wide other : Numbers) → s.is_wide ≡ false → s.shape ≡ Known → t.is_wide ≡ false → t.shape ≡ KnownSaved → t.depth ≡ s.depth +ℤ pos 8 → t.home ≡ s.depth +ℤ pos 8 → SFits w16 (s.depth +ℤ pos 8) → move (state_in s wide) PushBp ≡ Ok (state_in t other)
+push_bp_slot s t wide other short shape t_short t_shape depth home fits =
+    let n : Numbers = record { depth = s.depth +ℤ pos 8; fp = s.depth +ℤ pos 8; home = s.depth +ℤ pos 8 } in
+    let near = near_of (s.depth +ℤ pos 8) (in_16_bits (s.depth +ℤ pos 8) fits) in
+    rw (short, shape, t_short, t_shape, depth, home) (to_near (with_numbers KnownSaved n) (short_is_near KnownSaved n near near near))
+
+same_int : (x y : ℤ) → x ≡ y → int_same x y ≡ true
+same_int x y e = grind (arith, ints)
+
+-- where rbp is popped from where the caller's is saved, it isn't saved any more
+pub pop_bp_slot : (s t : Slot) (wide other : Numbers) → s.is_wide ≡ false → s.shape ≡ KnownSaved → s.depth ≡ s.home → t.is_wide ≡ false → t.shape ≡ Known → t.depth ≡ s.depth -ℤ pos 8 → SFits w16 (s.depth -ℤ pos 8) → move (state_in s wide) PopBp ≡ Ok (state_in t other)
+pop_bp_slot s t wide other short shape home t_short t_shape depth fits =
+    let n : Numbers = record { depth = s.depth -ℤ pos 8; fp = s.depth -ℤ pos 8; home = s.depth -ℤ pos 8 } in
+    let near = near_of (s.depth -ℤ pos 8) (in_16_bits (s.depth -ℤ pos 8) fits) in
+    let same : int_same s.depth s.home ≡ true = same_int s.depth s.home home in
+    rw (short, shape, t_short, t_shape, depth) (rw same (to_near (with_numbers Known n) (short_is_near Known n near near near)))
+
 eight_fits : SFits w16 (pos 8)
 eight_fits = grind (arith, ints)
 
-floor_fits : (shape : Shape) (home : ℤ) → SFits w16 home → SFits w16 (floor_in shape home)
+pub floor_fits : (shape : Shape) (home : ℤ) → SFits w16 home → SFits w16 (floor_in shape home)
 floor_fits KnownSaved home fits = fits
 floor_fits KnownFramedSaved home fits = fits
 floor_fits AtLeastSaved home fits = fits
@@ -126,3 +181,8 @@ pub one_of : (s : Slot) (found : Option Slot) (op one other : Op) → (op ≡ on
 one_of s None op one other which h = tt
 one_of s (Some slot) op one other (inl is) h = λ w o. subst (λ (x : Op). move (state_in s w) x ≡ Ok (state_in slot o)) (sym is) (h w o).0
 one_of s (Some slot) op one other (inr is) h = λ w o. subst (λ (x : Op). move (state_in s w) x ≡ Ok (state_in slot o)) (sym is) (h w o).1
+
+-- where an operation moves the state so
+pub just_one : (s : Slot) (found : Option Slot) (op one : Op) → op ≡ one → IfSome found (λ slot. (w o : Numbers) → move (state_in s w) one ≡ Ok (state_in slot o)) → IfSome found (λ slot. (w o : Numbers) → move (state_in s w) op ≡ Ok (state_in slot o))
+just_one s None op one is h = tt
+just_one s (Some slot) op one is h = λ w o. subst (λ (x : Op). move (state_in s w) x ≡ Ok (state_in slot o)) (sym is) (h w o)

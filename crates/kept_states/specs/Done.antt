@@ -1,16 +1,16 @@
 -- The points that have given in a batch.
-use Rattle.std.specs.Prelude.{◌≡◌, ℕ, ◌++◌, ◌⊎◌, true, false, List, Some, Contains, IsSome, drop, take}
+use Rattle.std.specs.Prelude.{◌≡◌, ℕ, ◌++◌, ◌⊎◌, true, false, List, [], Some, Contains, IsSome, drop, take, if◌then◌else◌, nat_lt}
 use Rattle.state_defs.specs.declared.state.State.{State}
 use Rattle.machine_defs.specs.Program.{Program, IsPoint}
 use Rattle.machine_defs.specs.Kept.{Brings, is_free}
-use Rattle.kept_states.specs.declared.done.Done.{Done}
+use Rattle.kept_states.specs.declared.done.Batch.{Batch}
 use Rattle.kept_states.specs.Gives.{Gives, IsGiven}
 use Rattle.kept_states.specs.LevelStates.{LevelStates, at, is_settled}
 
--- of the points that are reached, in order, those of level 0 that have given in the batch, and those of later levels, which stand
--- behind the settled ones
-abbrev pub done_of : ℕ → Done → List ℕ → List ℕ
-done_of settled done reached = drop done.first_from (take done.first_to reached) ++ drop settled (take done.later_to reached)
+-- of the points that are reached, in order, those that have given in the batch, where those in front begin at such a place: none,
+-- as long as those of level 0 are in front; else these, and those behind the settled ones
+abbrev pub done_of : ℕ → ℕ → Batch → List ℕ → List ℕ
+done_of settled front batch reached = if nat_lt front settled then [] else drop batch.from (take batch.to reached) ++ drop settled (take front reached)
 
 -- a state that is offered to the point is left aside, and where no settled point was met the point isn't settled
 abbrev pub IsLeftAside : LevelStates → ℕ → Type 0

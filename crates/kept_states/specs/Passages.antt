@@ -1,5 +1,5 @@
 -- How states pass points, as far as that doesn't depend on them.
-use Rattle.std.specs.Prelude.{◌≡◌, ℕ, ◌+◌, ◌<◌, ◌∷◌, [], ◌&&◌, not, true, List, None, length, slice_index_or}
+use Rattle.std.specs.Prelude.{◌≡◌, ℕ, ◌+◌, ◌<◌, ◌^◌, ◌∷◌, [], ◌&&◌, not, true, List, None, length, slice_index_or}
 use Rattle.machine_defs.specs.declared.flow.Edge.{Edge}
 use Rattle.machine_defs.specs.declared.flow.EdgeKind.TheVariants.{Next}
 use Rattle.machine_defs.specs.Program.{Program}
@@ -38,6 +38,10 @@ AreToldBelow p passages n = (k : ℕ) (d : Passage) → k < n → IsPassage p k 
 -- so they pass each of them
 abbrev pub ArePassages : Program → List Passage → Type 0
 ArePassages p passages = (n : ℕ) (d : Passage) → n < length passages → IsPassage p n (slice_index_or passages n d)
+
+-- Each of the points below a number that gives to the next one alone has it, and states come in there, as far as that is told of.
+abbrev pub AreLinked : List Passage → ℕ → Type 0
+AreLinked passages n = (k : ℕ) (d : Passage) → k < n → (slice_index_or passages k d).giving ≡ Straight → (k + 1 < 2 ^ 32) × (k + 1 < length passages) × (k + 1 < n → (slice_index_or passages (k + 1) d).is_open ≡ true)
 
 -- What a point gives is what it brings to the next point along its one edge, where states come in.
 pub record IsStraight (p : Program) (n : ℕ) : Type 0 where

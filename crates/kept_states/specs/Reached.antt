@@ -1,7 +1,7 @@
 -- The points that are reached, in the order in which they were, and their states.
 use Rattle.std.specs.Prelude.{◌≡◌, ℕ, ◌^◌, ◌<◌, ◌≤◌, ◌⊎◌, ◌&&◌, Bool, List, Option, None, All, if◌then◌else◌, nat_le, nat_lt, length, map, slice_get, slice_index}
 use Rattle.state_defs.specs.declared.state.State.{State}
-use Rattle.kept_states.specs.declared.done.Done.{Done}
+use Rattle.kept_states.specs.declared.done.Batch.{Batch}
 use Rattle.kept_states.specs.LevelStates.{count_some}
 
 -- the place of a point that isn't reached
@@ -19,11 +19,14 @@ offered_at kept states place = if nat_lt place kept then None else slice_get sta
 abbrev pub settled_at : ℕ → ℕ → ℕ → Bool
 settled_at first settled place = nat_le first place && nat_lt place settled
 
--- where the points in front begin and end, which have given, and how many are of level 0, settled or of level 0, and kept
-pub record AreOrdered (front_from front_to : ℕ) (done : Done) (first settled kept : ℕ) : Type 0 where
+-- Where the points in front begin and end, which of level 0 are in the batch, and how many are of level 0, settled or of level 0,
+-- and kept. Those in front are those of level 0 in the batch, or the last ones that are kept.
+pub record AreOrdered (front_from front_to : ℕ) (batch : Batch) (first settled kept : ℕ) : Type 0 where
   pub front_in : front_from ≤ front_to
   pub front_kept : front_to ≤ kept
-  pub done_kept : (done.first_to ≤ kept) × (done.later_to ≤ kept)
+  pub batch_kept : batch.to ≤ kept
+  pub begins : front_from < settled → (batch.from ≡ front_from) × (batch.to ≡ front_to) × (kept ≡ settled)
+  pub goes_on : settled ≤ front_from → front_to ≡ kept
   pub first_in : first ≤ settled
   pub settled_in : settled ≤ kept
 

@@ -1,13 +1,16 @@
 -- What points in front have given so far.
-use Rattle.std.specs.Prelude.{◌≡◌, ℕ, ◌<◌, false, List, [], ◌∷◌, Option, None, if◌then◌else◌, length, take}
+use Rattle.std.specs.Prelude.{◌≡◌, ℕ, ◌<◌, false, List, [], ◌∷◌, Option, Some, None, if◌then◌else◌, length, take}
 use Rattle.operation_defs.specs.declared.op.Op.{Op}
 use Rattle.machine_defs.specs.declared.flow.Edge.{Edge}
 use Rattle.state_defs.specs.declared.state.State.{State}
 use Rattle.machine_defs.specs.Program.{Program}
-use Rattle.machine_defs.specs.Kept.{brought_along, is_free}
+use Rattle.state_defs.specs.Move.{move}
+use Rattle.machine_defs.specs.Kept.{brought_along, is_free, moved}
 use Rattle.kept_states.specs.Least.{IsLeast}
 use Rattle.kept_states.specs.LevelStates.{LevelStates, Offers, at, is_settled, offered}
 use Rattle.kept_states.specs.Gives.{IsGiven}
+use Rattle.kept_states.specs.Packed.{no_numbers, state_in}
+use Rattle.kept_states.specs.declared.slot.Slot.{Slot}
 
 -- By each point that isn't kept, the least state that has the property. And where no settled point was met none has it there.
 pub record AreLeast (kept : List (Option State)) (next : Offers) (P : ℕ → State → Type 0) : Type 0 where
@@ -29,3 +32,7 @@ given_along p s op e = if p.unchecked e.to then [] else (if is_free (p.hint e.to
 
 abbrev pub given_to_restore : Program → State → ℕ → List State
 given_to_restore p s r = if p.unchecked r then [] else s ∷ []
+
+-- the point keeps a state that is in this slot, and its operation leaves it as it is
+abbrev pub Lasts : Program → List (Option State) → ℕ → Slot → Type 0
+Lasts p kept a slot = (at kept a ≡ Some (state_in slot no_numbers)) × (moved (move (state_in slot no_numbers) (p.insn a).op) ≡ state_in slot no_numbers ∷ [])

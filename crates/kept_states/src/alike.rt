@@ -63,8 +63,31 @@ fn brought_the_same(graph: &Graph, levels: &Levels, i: usize, first: u32, n: u32
     leaves_state(graph, levels, first) && leaves_state(graph, levels, n)
 }
 
-/// The edges along which a point in front gives that others may not have given already: all of them or, where another
-/// point has the same edges and has given, none.
+/// The edges along which a point in front gives that others may not have given already, where it has many: all of them or,
+/// where another point has the same edges and has given, none.
+#[inline(never)]
+fn many_edges<'a>(graph: &'a Graph, levels: &Levels, i: usize, n: u32) -> &'a [Edge]
+    requires points { length levels.now.kept ≡ length graph.now.parts.points.items }
+    requires inside { i ≤ length levels.now.front }
+    requires point { n < length graph.now.parts.points.items }
+    ensures within { All (λ e. e.to < length graph.now.parts.points.items) result.now }
+    ensures edges { (p : Program) → Tells p graph.now.parts → HaveGivenAll p levels.now → (result.now ≡ edges_of p n) ⊎ ((result.now ≡ []) × IsBroughtInVain p levels.now i n) }
+{
+    let edges = graph.successors(n);
+    let Some(first) = graph.alike(n) else {
+        return edges;
+    };
+    if has_brought(graph, levels, first) {
+        return &[];
+    }
+    if brought_the_same(graph, levels, i, first, n) {
+        return &[];
+    }
+    edges
+}
+
+/// The edges along which a point in front gives that others may not have given already.
+#[inline(always)]
 pub(crate) fn giving_edges<'a>(graph: &'a Graph, levels: &Levels, i: usize, n: u32) -> &'a [Edge]
     requires points { length levels.now.kept ≡ length graph.now.parts.points.items }
     requires inside { i ≤ length levels.now.front }
@@ -76,14 +99,5 @@ pub(crate) fn giving_edges<'a>(graph: &'a Graph, levels: &Levels, i: usize, n: u
     if edges.len() <= FEW_EDGES {
         return edges;
     }
-    let Some(first) = graph.alike(n) else {
-        return edges;
-    };
-    if has_brought(graph, levels, first) {
-        return &[];
-    }
-    if brought_the_same(graph, levels, i, first, n) {
-        return &[];
-    }
-    edges
+    many_edges(graph, levels, i, n)
 }

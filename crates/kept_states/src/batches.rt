@@ -11,7 +11,7 @@ ghost use Rattle.machine_defs.specs.Kept.{state_at};
 ghost use Rattle.program_graph.specs.Tells.{Tells};
 ghost use Rattle.kept_states.specs.Batches.{AreFirst};
 ghost use Rattle.kept_states.specs.LevelStates.{at};
-ghost use Rattle.kept_states.specs.Passages.{ArePassages};
+ghost use Rattle.kept_states.specs.Passages.{AreLinked, ArePassages};
 ghost use Rattle.kept_states.specs.Ranks.{AreSpread};
 
 use crate::levels::Levels;
@@ -68,6 +68,7 @@ pub(crate) fn tell_points(graph: &Graph, passages: &mut Vec<Passage>, levels: &m
     requires not_offered { (q : ℕ) → at levels.old.next.states q ≡ None }
     ensures passages { length passages.new.items ≡ length passages.old.items }
     ensures told { (p : Program) → Tells p graph.now.parts → ArePassages p passages.new.items }
+    ensures linked { AreLinked passages.new.items (length passages.new.items) }
     ensures kept { levels.new.kept ≡ levels.old.kept }
     ensures next { length levels.new.next.states ≡ length levels.old.kept }
     ensures offered { (p : Program) → Tells p graph.now.parts → (q : ℕ) → IsPoint p q → IsSome (at levels.new.next.states q) → at levels.new.next.states q ≡ state_at p 0 q }
@@ -110,6 +111,7 @@ pub(crate) fn spread_at_once(graph: &Graph, passages: &[Passage], levels: &mut L
     requires points { length levels.old.kept ≡ length graph.now.parts.points.items }
     requires passages { length passages.now ≡ length graph.now.parts.points.items }
     requires told { (p : Program) → Tells p graph.now.parts → ArePassages p passages.now }
+    requires linked { AreLinked passages.now (length passages.now) }
     ensures points { length levels.new.kept ≡ length graph.now.parts.points.items }
     ensures spread { (p : Program) → Tells p graph.now.parts → IsProgram p → AreSpread p (at levels.new.kept) [] [] }
 {
@@ -125,6 +127,7 @@ pub(crate) fn spread_batches(graph: &Graph, passages: &[Passage], levels: &mut L
     requires points { length levels.old.kept ≡ length graph.now.parts.points.items }
     requires passages { length passages.now ≡ length graph.now.parts.points.items }
     requires told { (p : Program) → Tells p graph.now.parts → ArePassages p passages.now }
+    requires linked { AreLinked passages.now (length passages.now) }
     requires next { length levels.old.next.states ≡ length levels.old.kept }
     requires none { (q : ℕ) → at levels.old.next.states q ≡ None }
     requires first { (p : Program) → Tells p graph.now.parts → AreFirst p levels.old.firsts }

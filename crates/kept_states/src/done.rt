@@ -1,57 +1,31 @@
-//! The places of points that have given in a batch.
+//! The points that have given in a batch.
 
-ghost use Rattle.std.specs.Prelude.{◌≡◌, ◌<◌, ◌≤◌, ◌⊎◌, ◌↔◌, ℕ, List, [], Contains, IsTrue, drop, length, slice_index, take};
+ghost use Rattle.std.specs.Prelude.{◌≡◌, ◌<◌, ◌≤◌, ◌↔◌, ℕ, List, Contains, IsTrue, length, slice_index};
 ghost use Rattle.kept_states.specs.Done.{done_of};
 
-/// Where those points of level 0 begin and end that have given in a batch, and where those of later levels end, which
-/// stand behind the settled points.
+/// The places where the points of level 0 begin and end that are in a batch.
 #[derive(Clone, Copy)]
-pub(crate) struct Done {
-    pub(crate) first_from: usize,
-    pub(crate) first_to: usize,
-    pub(crate) later_to: usize,
+pub(crate) struct Batch {
+    pub(crate) from: usize,
+    pub(crate) to: usize,
 }
 
-impl Done {
-    /// None has given yet, where so many points are settled or of level 0.
-    pub(crate) fn none(settled: usize) -> Done
-        ensures within { (n : ℕ) → settled ≤ n → (result.first_to ≤ n) × (result.later_to ≤ n) }
-        ensures none { (reached : List ℕ) → done_of settled result reached ≡ [] }
-    {
-        Done {
-            first_from: 0,
-            first_to: 0,
-            later_to: settled,
-        }
-    }
+/// That of no points.
+pub(crate) const NO_BATCH: Batch = Batch { from: 0, to: 0 };
 
-    /// Those at these places have given too: the next ones of a later level, or those of level 0 that are in the batch.
-    pub(crate) fn with(self, from: usize, to: usize) -> Done
-        ensures within { (n : ℕ) → self.first_to ≤ n → self.later_to ≤ n → to ≤ n → (result.first_to ≤ n) × (result.later_to ≤ n) }
-        ensures more { (settled : ℕ) (reached : List ℕ) (q : ℕ) → self.later_to ≤ length reached → to ≤ length reached → Contains (done_of settled result reached) q → Contains (done_of settled self reached) q ⊎ Contains (drop from (take to reached)) q }
+impl Batch {
+    /// Whether the point at a place has given, where so many are settled or of level 0, and those in front begin at such a
+    /// place: one of level 0, as long as that is in front, or one behind the settled points.
+    pub(crate) fn has_given(self, settled: usize, front: usize, place: usize) -> bool
+        ensures { IsTrue result → (reached : List ℕ) → self.to ≤ length reached → front ≤ length reached → Contains (done_of settled front self reached) (slice_index reached place) }
     {
-        if from == self.later_to {
-            Done {
-                later_to: to,
-                ..self
-            }
-        } else {
-            Done {
-                first_from: from,
-                first_to: to,
-                ..self
-            }
+        if front < settled {
+            return false;
         }
-    }
-
-    /// Whether the point at a place has given, where so many are settled or of level 0.
-    pub(crate) fn has(self, settled: usize, place: usize) -> bool
-        ensures { IsTrue result → (reached : List ℕ) → self.first_to ≤ length reached → self.later_to ≤ length reached → Contains (done_of settled self reached) (slice_index reached place) }
-    {
-        if is_between(self.first_from, self.first_to, place) {
+        if is_between(self.from, self.to, place) {
             return true;
         }
-        is_between(settled, self.later_to, place)
+        is_between(settled, front, place)
     }
 }
 

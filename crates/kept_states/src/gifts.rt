@@ -1,141 +1,244 @@
 //! What a kept point gives to others.
 
-ghost use Rattle.std.specs.Prelude.{◌≡◌, ◌<◌, length};
+ghost use Rattle.std.specs.Prelude.{◌≡◌, ◌<◌, ◌∷◌, [], IfSome, Some, length, slice_index};
+ghost use Rattle.state_defs.specs.declared.state.State.{State};
 ghost use Rattle.state_defs.specs.Move.{move};
 ghost use Rattle.machine_defs.specs.Program.{Program};
 ghost use Rattle.machine_defs.specs.Kept.{brought_along, moved as moved_by};
 ghost use Rattle.program_graph.specs.Tells.{Tells};
-ghost use Rattle.kept_states.specs.LevelStates.{StaysSame};
-ghost use Rattle.kept_states.specs.Packed.{state_of};
+ghost use Rattle.kept_states.specs.LevelStates.{StaysSame, at};
 ghost use Rattle.kept_states.specs.Passages.{ArePassages};
-ghost use Rattle.kept_states.specs.Told.{given_along, given_to_restore, offer_all};
+ghost use Rattle.kept_states.specs.Told.{Lasts, given_along, given_to_restore, offer_all};
 
 use crate::levels::Levels;
-use crate::moves::moved;
+use crate::moves::stepped;
 use crate::packed::PackedState;
+use crate::parts::NO_NUMBERS;
 use crate::passages::{Passage, passage_at};
+use crate::slot::Slot;
 use machine_defs::{Edge, EdgeKind};
 use program_graph::Graph;
 
-/// Offers a point the state of another one, moved by its operation, if that isn't refused.
+/// The slot of the state of the point at a place in front, where it is quickly seen that its operation leaves the state as it
+/// is.
+#[inline(always)]
+pub(crate) fn lasting_slot(
+    passages: &[Passage],
+    levels: &Levels,
+    i: usize,
+    from: u32,
+) -> Option<Slot>
+    requires inside { i < length levels.now.front }
+    requires from { from ≡ slice_index levels.now.front i }
+    requires point { from < length passages.now }
+    ensures { (p : Program) → ArePassages p passages.now → IfSome result (Lasts p levels.now.kept from) }
+{
+    let slot = levels.front_slot(i);
+    if passage_at(passages, from).is_neutral && !slot.is_wide() {
+        Some(slot)
+    } else {
+        None
+    }
+}
+
+/// Offers a point the state of the one at a place in front, moved by its operation, if that isn't refused.
 #[inline(never)]
-fn offer_stepped(graph: &Graph, levels: &mut Levels, state: PackedState, from: u32, to: u32)
+fn offer_stepped(graph: &Graph, levels: &mut Levels, i: usize, from: u32, to: u32)
     requires points { length levels.old.kept ≡ length graph.now.parts.points.items }
-    requires from { from < length graph.now.parts.points.items }
+    requires inside { i < length levels.old.front }
+    requires from { from ≡ slice_index levels.old.front i }
+    requires giver { from < length graph.now.parts.points.items }
     requires point { to < length graph.now.parts.points.items }
     ensures kept { levels.new.kept ≡ levels.old.kept }
     ensures front { levels.new.front ≡ levels.old.front }
     ensures done { levels.new.done ≡ levels.old.done }
     ensures same { StaysSame levels.old levels.new }
     ensures len { length levels.new.next.states ≡ length levels.old.next.states }
-    ensures next { (p : Program) → Tells p graph.now.parts → levels.new.next ≡ offer_all levels.old.kept levels.old.next to (moved_by (move (state_of state) (p.insn from).op)) }
+    ensures next { (p : Program) (s : State) → Tells p graph.now.parts → at levels.old.kept from ≡ Some s → levels.new.next ≡ offer_all levels.old.kept levels.old.next to (moved_by (move s (p.insn from).op)) }
 {
-    if let Some(after) = moved(state, graph.insn(from).op) {
+    if let Some(after) = stepped(levels.front_state(i), graph.insn(from).op) {
         levels.offer(to, after);
     }
 }
 
-/// Offers a point the state of another one, moved by its operation, if that isn't refused. Where the operation
-/// leaves the state as it is, it is handed on as it stands.
-#[inline(always)]
-pub(crate) fn offer_moved(
-    graph: &Graph,
-    passages: &[Passage],
-    levels: &mut Levels,
-    state: PackedState,
-    from: u32,
-    to: u32,
-)
+/// Offers a point the state of the one at a place in front, moved by its operation, if that isn't refused. Most moves are
+/// quickly seen not to be.
+#[inline(never)]
+fn offer_changed(graph: &Graph, levels: &mut Levels, i: usize, from: u32, to: u32)
     requires points { length levels.old.kept ≡ length graph.now.parts.points.items }
-    requires passages { length passages.now ≡ length graph.now.parts.points.items }
-    requires told { (p : Program) → Tells p graph.now.parts → ArePassages p passages.now }
-    requires from { from < length graph.now.parts.points.items }
+    requires inside { i < length levels.old.front }
+    requires from { from ≡ slice_index levels.old.front i }
+    requires giver { from < length graph.now.parts.points.items }
     requires point { to < length graph.now.parts.points.items }
     ensures kept { levels.new.kept ≡ levels.old.kept }
     ensures front { levels.new.front ≡ levels.old.front }
     ensures done { levels.new.done ≡ levels.old.done }
     ensures same { StaysSame levels.old levels.new }
     ensures len { length levels.new.next.states ≡ length levels.old.next.states }
-    ensures next { (p : Program) → Tells p graph.now.parts → levels.new.next ≡ offer_all levels.old.kept levels.old.next to (moved_by (move (state_of state) (p.insn from).op)) }
+    ensures next { (p : Program) (s : State) → Tells p graph.now.parts → at levels.old.kept from ≡ Some s → levels.new.next ≡ offer_all levels.old.kept levels.old.next to (moved_by (move s (p.insn from).op)) }
 {
-    if passage_at(passages, from).is_neutral && state.slot.is_short() {
-        levels.offer(to, state);
-    } else {
-        offer_stepped(graph, levels, state, from, to);
+    let before = levels.front_slot(i);
+    match before.quickly_moved(graph.insn(from).op) {
+        Some(slot) => {
+            let wide = NO_NUMBERS;
+            levels.offer(to, PackedState { slot, wide });
+        }
+        None => offer_stepped(graph, levels, i, from, to),
     }
 }
 
-/// Offers the point at an edge's end what a state brings along it: to a fixup the state before the instruction, else the one
-/// after it; to another function none.
+/// Offers a point the state of the one at a place in front, moved by its operation, if that isn't refused. Where the
+/// operation leaves the state as it is, the slot that it is in may be given.
 #[inline(always)]
-fn bring_along(
+pub(crate) fn offer_moved(
     graph: &Graph,
-    passages: &[Passage],
     levels: &mut Levels,
-    state: PackedState,
+    i: usize,
     from: u32,
-    edge: Edge,
+    lasting: Option<Slot>,
+    to: u32,
 )
     requires points { length levels.old.kept ≡ length graph.now.parts.points.items }
-    requires passages { length passages.now ≡ length graph.now.parts.points.items }
-    requires told { (p : Program) → Tells p graph.now.parts → ArePassages p passages.now }
-    requires from { from < length graph.now.parts.points.items }
+    requires inside { i < length levels.old.front }
+    requires from { from ≡ slice_index levels.old.front i }
+    requires giver { from < length graph.now.parts.points.items }
+    requires point { to < length graph.now.parts.points.items }
+    requires lasting { (p : Program) → Tells p graph.now.parts → IfSome lasting (Lasts p levels.old.kept from) }
+    ensures kept { levels.new.kept ≡ levels.old.kept }
+    ensures front { levels.new.front ≡ levels.old.front }
+    ensures done { levels.new.done ≡ levels.old.done }
+    ensures same { StaysSame levels.old levels.new }
+    ensures len { length levels.new.next.states ≡ length levels.old.next.states }
+    ensures next { (p : Program) (s : State) → Tells p graph.now.parts → at levels.old.kept from ≡ Some s → levels.new.next ≡ offer_all levels.old.kept levels.old.next to (moved_by (move s (p.insn from).op)) }
+{
+    match lasting {
+        Some(slot) => {
+            let wide = NO_NUMBERS;
+            levels.offer(to, PackedState { slot, wide });
+        }
+        None => offer_changed(graph, levels, i, from, to),
+    }
+}
+
+/// Offers a point the state of the one at a place in front.
+fn offer_same(levels: &mut Levels, i: usize, to: u32)
+    requires inside { i < length levels.old.front }
+    requires point { to < length levels.old.kept }
+    ensures kept { levels.new.kept ≡ levels.old.kept }
+    ensures front { levels.new.front ≡ levels.old.front }
+    ensures done { levels.new.done ≡ levels.old.done }
+    ensures same { StaysSame levels.old levels.new }
+    ensures len { length levels.new.next.states ≡ length levels.old.next.states }
+    ensures next { (s : State) → at levels.old.kept (slice_index levels.old.front i) ≡ Some s → levels.new.next ≡ offer_all levels.old.kept levels.old.next to (s ∷ []) }
+{
+    levels.offer(to, levels.front_state(i));
+}
+
+/// Offers the point at an edge's end what the one at a place in front brings along it: to a fixup its state before the
+/// instruction, else the one after it; to another function none.
+#[inline(never)]
+fn bring_changed(graph: &Graph, levels: &mut Levels, i: usize, from: u32, edge: Edge)
+    requires points { length levels.old.kept ≡ length graph.now.parts.points.items }
+    requires inside { i < length levels.old.front }
+    requires from { from ≡ slice_index levels.old.front i }
+    requires giver { from < length graph.now.parts.points.items }
     requires point { edge.to < length graph.now.parts.points.items }
     ensures kept { levels.new.kept ≡ levels.old.kept }
     ensures front { levels.new.front ≡ levels.old.front }
     ensures done { levels.new.done ≡ levels.old.done }
     ensures same { StaysSame levels.old levels.new }
     ensures len { length levels.new.next.states ≡ length levels.old.next.states }
-    ensures next { (p : Program) → Tells p graph.now.parts → levels.new.next ≡ offer_all levels.old.kept levels.old.next edge.to (brought_along (state_of state) (p.insn from).op edge.kind) }
+    ensures next { (p : Program) (s : State) → Tells p graph.now.parts → at levels.old.kept from ≡ Some s → levels.new.next ≡ offer_all levels.old.kept levels.old.next edge.to (brought_along s (p.insn from).op edge.kind) }
 {
     match edge.kind {
         EdgeKind::Next | EdgeKind::Taken | EdgeKind::Table => {
-            offer_moved(graph, passages, levels, state, from, edge.to);
+            offer_changed(graph, levels, i, from, edge.to);
         }
-        EdgeKind::Fixup => levels.offer(edge.to, state),
+        EdgeKind::Fixup => offer_same(levels, i, edge.to),
         EdgeKind::Sibling => {}
     }
 }
 
-/// Offers the point at an edge's end what a point with a state gives along it.
+/// Offers the point at an edge's end what the one at a place in front brings along it. Where its operation leaves its state as
+/// it is, the slot that it is in may be given: that is brought along all edges but those to another function.
+#[inline(always)]
+fn bring_along(
+    graph: &Graph,
+    levels: &mut Levels,
+    i: usize,
+    from: u32,
+    lasting: Option<Slot>,
+    edge: Edge,
+)
+    requires points { length levels.old.kept ≡ length graph.now.parts.points.items }
+    requires inside { i < length levels.old.front }
+    requires from { from ≡ slice_index levels.old.front i }
+    requires giver { from < length graph.now.parts.points.items }
+    requires point { edge.to < length graph.now.parts.points.items }
+    requires lasting { (p : Program) → Tells p graph.now.parts → IfSome lasting (Lasts p levels.old.kept from) }
+    ensures kept { levels.new.kept ≡ levels.old.kept }
+    ensures front { levels.new.front ≡ levels.old.front }
+    ensures done { levels.new.done ≡ levels.old.done }
+    ensures same { StaysSame levels.old levels.new }
+    ensures len { length levels.new.next.states ≡ length levels.old.next.states }
+    ensures next { (p : Program) (s : State) → Tells p graph.now.parts → at levels.old.kept from ≡ Some s → levels.new.next ≡ offer_all levels.old.kept levels.old.next edge.to (brought_along s (p.insn from).op edge.kind) }
+{
+    let Some(slot) = lasting else {
+        bring_changed(graph, levels, i, from, edge);
+        return;
+    };
+    if edge.kind == EdgeKind::Sibling {
+        return;
+    }
+    let wide = NO_NUMBERS;
+    levels.offer(edge.to, PackedState { slot, wide });
+}
+
+/// Offers the point at an edge's end what the one at a place in front gives along it.
 #[inline(always)]
 pub(crate) fn give_along(
     graph: &Graph,
     passages: &[Passage],
     levels: &mut Levels,
-    state: PackedState,
+    i: usize,
     from: u32,
+    lasting: Option<Slot>,
     edge: Edge,
 )
     requires points { length levels.old.kept ≡ length graph.now.parts.points.items }
     requires passages { length passages.now ≡ length graph.now.parts.points.items }
     requires told { (p : Program) → Tells p graph.now.parts → ArePassages p passages.now }
-    requires from { from < length graph.now.parts.points.items }
+    requires inside { i < length levels.old.front }
+    requires from { from ≡ slice_index levels.old.front i }
+    requires giver { from < length graph.now.parts.points.items }
     requires point { edge.to < length graph.now.parts.points.items }
+    requires lasting { (p : Program) → Tells p graph.now.parts → IfSome lasting (Lasts p levels.old.kept from) }
     ensures kept { levels.new.kept ≡ levels.old.kept }
     ensures front { levels.new.front ≡ levels.old.front }
     ensures done { levels.new.done ≡ levels.old.done }
     ensures same { StaysSame levels.old levels.new }
     ensures len { length levels.new.next.states ≡ length levels.old.next.states }
-    ensures next { (p : Program) → Tells p graph.now.parts → levels.new.next ≡ offer_all levels.old.kept levels.old.next edge.to (given_along p (state_of state) (p.insn from).op edge) }
+    ensures next { (p : Program) (s : State) → Tells p graph.now.parts → at levels.old.kept from ≡ Some s → levels.new.next ≡ offer_all levels.old.kept levels.old.next edge.to (given_along p s (p.insn from).op edge) }
 {
     if passage_at(passages, edge.to).is_open {
-        bring_along(graph, passages, levels, state, from, edge);
+        bring_along(graph, levels, i, from, lasting, edge);
     }
 }
 
-/// Offers a RESTORE the state of its SAVE.
-pub(crate) fn give_to_restore(graph: &Graph, levels: &mut Levels, state: PackedState, restore: u32)
+/// Offers a RESTORE the state of its SAVE, which is at a place in front.
+#[inline(never)]
+pub(crate) fn give_to_restore(graph: &Graph, levels: &mut Levels, i: usize, restore: u32)
     requires points { length levels.old.kept ≡ length graph.now.parts.points.items }
+    requires inside { i < length levels.old.front }
     requires point { restore < length graph.now.parts.points.items }
     ensures kept { levels.new.kept ≡ levels.old.kept }
     ensures front { levels.new.front ≡ levels.old.front }
     ensures done { levels.new.done ≡ levels.old.done }
     ensures same { StaysSame levels.old levels.new }
     ensures len { length levels.new.next.states ≡ length levels.old.next.states }
-    ensures next { (p : Program) → Tells p graph.now.parts → levels.new.next ≡ offer_all levels.old.kept levels.old.next restore (given_to_restore p (state_of state) restore) }
+    ensures next { (p : Program) (s : State) → Tells p graph.now.parts → at levels.old.kept (slice_index levels.old.front i) ≡ Some s → levels.new.next ≡ offer_all levels.old.kept levels.old.next restore (given_to_restore p s restore) }
 {
     if !graph.unchecked(restore) {
-        levels.offer(restore, state);
+        offer_same(levels, i, restore);
     }
 }

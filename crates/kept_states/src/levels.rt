@@ -7,12 +7,14 @@ ghost use Rattle.machine_defs.specs.Kept.{kept_or};
 ghost use Rattle.kept_states.specs.Done.{done_of};
 ghost use Rattle.kept_states.specs.LevelStates.{LevelStates, StaysSame, at, count_open, is_settled, offered};
 ghost use Rattle.kept_states.specs.Reached.{AreOrdered, AreReached, kept_at, offered_at, settled_at};
-ghost use Rattle.kept_states.specs.Packed.{state_of};
+ghost use Rattle.kept_states.specs.declared.parts.Numbers.{Numbers as NumbersValue};
+ghost use Rattle.kept_states.specs.Packed.{state_in, state_of};
 
-use crate::done::Done;
+use crate::done::{Batch, NO_BATCH};
 use crate::order::lesser;
 use crate::packed::PackedState;
 use crate::region::Region;
+use crate::slot::Slot;
 use operation_defs::Op;
 use ot_base::NoMemory;
 use state_defs::State;
@@ -37,8 +39,8 @@ pub(crate) struct Levels {
     /// The places where the points in front begin, and where they end.
     front_from: usize,
     front_to: usize,
-    /// The places of the points that have given in this batch.
-    done: Done,
+    /// The points of level 0 that are in this batch.
+    batch: Batch,
     /// How many points are of level 0, how many were kept when the batch began, and how many are kept.
     first: usize,
     settled: usize,
@@ -55,9 +57,9 @@ impl Model for Levels {
 
     ghost Value = { LevelStates };
 
-    ghost view = { λ l. record { kept = map (kept_at l.kept l.states.list) l.places.items; next = record { states = map (offered_at l.kept l.states.list) l.places.items; settled = map (settled_at l.first l.settled) l.places.items; met = l.met }; front = drop l.front_from (take l.front_to l.reached.items); done = done_of l.settled l.done l.reached.items; firsts = take l.first l.reached.items } };
+    ghost view = { λ l. record { kept = map (kept_at l.kept l.states.list) l.places.items; next = record { states = map (offered_at l.kept l.states.list) l.places.items; settled = map (settled_at l.first l.settled) l.places.items; met = l.met }; front = drop l.front_from (take l.front_to l.reached.items); done = done_of l.settled l.front_from l.batch l.reached.items; firsts = take l.first l.reached.items } };
 
-    ghost invariant = { λ l. (length l.places.items ≤ vec_capacity l.reached) × (length l.places.items ≤ l.states.room) × AreReached l.places.items l.reached.items l.states.list l.kept × AreOrdered l.front_from l.front_to l.done l.first l.settled l.kept };
+    ghost invariant = { λ l. (length l.places.items ≤ vec_capacity l.reached) × (length l.places.items ≤ l.states.room) × AreReached l.places.items l.reached.items l.states.list l.kept × AreOrdered l.front_from l.front_to l.batch l.first l.settled l.kept };
 }
 
 impl Levels {
@@ -71,7 +73,7 @@ impl Levels {
             states: Region::reserve(alloc, points)?,
             front_from: 0,
             front_to: 0,
-            done: Done::none(0),
+            batch: NO_BATCH,
             first: 0,
             settled: 0,
             kept: 0,
@@ -183,13 +185,22 @@ impl Levels {
         self.states.packed(self.front_from + i)
     }
 
+    /// The slot of the state of a point that is kept since the last level.
+    #[inline(always)]
+    pub(crate) fn front_slot(&self, i: usize) -> Slot
+        requires { i < length self.now.front }
+        ensures { (wide : NumbersValue) × (at self.now.kept (slice_index self.now.front i) ≡ Some (state_in result wide)) }
+    {
+        self.states.slot(self.front_from + i)
+    }
+
     /// Whether a point is known to have given in this batch.
     pub(crate) fn has_given(&self, n: u32) -> bool
         requires { n < length self.now.kept }
         ensures { IsTrue result → Contains self.now.done n }
     {
         let place = self.places[n as usize] as usize;
-        place < self.kept && self.done.has(self.settled, place)
+        place < self.kept && self.batch.has_given(self.settled, self.front_from, place)
     }
 
     /// Whether a point is one of the first ones in front.
@@ -212,11 +223,32 @@ impl Levels {
         ensures firsts { self.new.firsts ≡ self.old.firsts }
         ensures next { self.new.next ≡ offered self.old.kept self.old.next n (state_of state) }
     {
-        if self.is_reached(n) {
-            self.offer_again(n, state);
-        } else {
+        if !self.is_reached(n) {
             self.offer_new(n, state);
+        } else if !self.leaves_aside(n) {
+            // A copy, so that the state itself may stay in registers.
+            let PackedState { slot, wide } = state;
+            self.offer_again(n, PackedState { slot, wide });
         }
+    }
+
+    /// Leaves aside what a point is offered, if it is kept. Tells whether it is.
+    #[inline(always)]
+    fn leaves_aside(&mut self, n: u32) -> bool
+        requires { n < length self.old.kept }
+        ensures kept { self.new.kept ≡ self.old.kept }
+        ensures front { self.new.front ≡ self.old.front }
+        ensures done { self.new.done ≡ self.old.done }
+        ensures firsts { self.new.firsts ≡ self.old.firsts }
+        ensures next { IsTrue result → (s : State) → self.new.next ≡ offered self.old.kept self.old.next n s }
+        ensures otherwise { result ≡ false → self.new.next ≡ self.old.next }
+    {
+        let place = self.places[n as usize] as usize;
+        if self.kept <= place {
+            return false;
+        }
+        self.met |= is_settled_at(self.first, self.settled, place);
+        true
     }
 
     /// Offers a point that is likely to be reached a state for the next level.
@@ -297,7 +329,6 @@ impl Levels {
         ensures settled { self.new.next.settled ≡ self.old.next.settled }
         ensures met { self.new.next.met ≡ self.old.next.met }
     {
-        self.done = self.done.with(self.front_from, self.front_to);
         self.front_from = self.kept;
         self.kept = self.reached.len();
         self.front_to = self.kept;
@@ -317,7 +348,7 @@ impl Levels {
         self.kept = self.reached.len();
         self.first = self.kept;
         self.settled = self.kept;
-        self.done = Done::none(self.kept);
+        self.batch = NO_BATCH;
     }
 
     /// How many points of level 0 there are.
@@ -352,7 +383,7 @@ impl Levels {
         self.front_from = from;
         self.front_to = to;
         self.settled = self.kept;
-        self.done = Done::none(self.kept);
+        self.batch = Batch { from, to };
     }
 
     /// Whether a state was offered to a settled point.
@@ -372,7 +403,7 @@ impl Levels {
         self.states.clear();
         self.front_from = 0;
         self.front_to = 0;
-        self.done = Done::none(0);
+        self.batch = NO_BATCH;
         self.first = 0;
         self.settled = 0;
         self.kept = 0;

@@ -6,31 +6,15 @@ ghost use Rattle.machine_defs.specs.Kept.{moved as moved_by};
 ghost use Rattle.kept_states.specs.Packed.{state_of};
 
 use crate::packed::PackedState;
-use crate::parts::NO_NUMBERS;
 use operation_defs::Op;
 use stack_state::step;
 
 /// The state after an operation, if that isn't refused.
-#[inline(never)]
-fn stepped(state: PackedState, op: Op) -> Option<PackedState>
+pub(crate) fn stepped(state: PackedState, op: Op) -> Option<PackedState>
     ensures { option_to_list (option_map state_of result) ≡ moved_by (move (state_of state) op) }
 {
     match step(state.state(), op) {
         Ok(after) => Some(PackedState::new(after)),
         Err(_) => None,
-    }
-}
-
-/// The state after an operation, if that isn't refused.
-#[inline(always)]
-pub(crate) fn moved(state: PackedState, op: Op) -> Option<PackedState>
-    ensures { option_to_list (option_map state_of result) ≡ moved_by (move (state_of state) op) }
-{
-    match state.slot.quickly_moved(op) {
-        Some(slot) => Some(PackedState {
-            slot,
-            wide: NO_NUMBERS,
-        }),
-        None => stepped(state, op),
     }
 }

@@ -3,11 +3,12 @@
 //! What is told of all points stands in a list of its own, which is much shorter than the graph: while states spread, a
 //! level may have points far from each other, and most of them are passed without a look at the graph but for edges.
 
-ghost use Rattle.std.specs.Prelude.{◌≡◌, ◌+◌, ◌<◌, ◌↔◌, ◌∷◌, ℕ, [], All, Contains, IfOk, IfSome, IsSome, IsTrue, None, false, length, true};
+ghost use Rattle.std.specs.Prelude.{◌≡◌, ◌≢◌, ◌+◌, ◌<◌, ◌^◌, ◌↔◌, ◌∷◌, ℕ, [], All, Contains, IfOk, IfSome, IsSome, IsTrue, None, false, length, not, slice_index_or, true};
 ghost use Rattle.machine_defs.specs.Program.{Program};
 ghost use Rattle.machine_defs.specs.Kept.{edges_of, is_free as is_free_hint, state_at};
 ghost use Rattle.program_graph.specs.Tells.{Means, Tells};
-ghost use Rattle.kept_states.specs.Passages.{ArePassages, GivesSo, IsPassage, IsStraight, next_edge};
+ghost use Rattle.kept_states.specs.declared.passages.Passage.{Passage as PassageValue};
+ghost use Rattle.kept_states.specs.Passages.{AreLinked, ArePassages, AreToldBelow, GivesSo, IsPassage, IsStraight, next_edge};
 
 use crate::neutral::is_neutral;
 use machine_defs::{Edge, EdgeKind};
@@ -20,7 +21,7 @@ use std::alloc::Global;
 /// To which points a point gives something.
 #[derive(Clone, Copy)]
 pub(crate) enum Giving {
-    /// To the next point alone, along its one edge, which is a Next. It isn't of level 0.
+    /// To the next point alone, along its one edge, which is a Next, and states come in there. It isn't of level 0.
     Straight,
     /// To points at the ends of its edges. It isn't of level 0.
     AlongEdges,
@@ -108,84 +109,60 @@ fn is_special(graph: &Graph, n: u32) -> bool
     is_hinted(graph, n) || graph.is_entered(n)
 }
 
-/// Whether an edge of a point is a Next to the next point.
-fn leads_straight(edge: Edge, n: u32) -> bool
-    ensures { IsTrue result → edge ≡ next_edge n }
+/// Whether these edges of a point are one alone, a Next to the next point.
+#[inline(always)]
+pub(crate) fn lead_straight(edges: &[Edge], n: u32) -> bool
+    ensures edges { IsTrue result → edges.now ≡ next_edge n ∷ [] }
+    ensures fits { IsTrue result → n + 1 < 2 ^ 32 }
 {
+    if edges.len() != 1 {
+        return false;
+    }
+    let edge = &edges[0];
     match edge.kind {
         EdgeKind::Next => u64::from(edge.to) == u64::from(n) + 1,
         EdgeKind::Taken | EdgeKind::Fixup | EdgeKind::Table | EdgeKind::Sibling => false,
     }
 }
 
-/// To which points a point gives something that isn't special.
-#[inline(always)]
-fn ordinary_giving(graph: &Graph, n: u32) -> Giving
-    requires point { n < length graph.now.parts.points.items }
-    requires first { (p : Program) → Tells p graph.now.parts → state_at p 0 n ≡ None }
-    requires meant { (p : Program) → Tells p graph.now.parts → (r : ℕ) → Means p n r → ⊥ }
-    ensures { (p : Program) → Tells p graph.now.parts → GivesSo p n result }
-{
-    match graph.only_edge(n) {
-        Some(edge) if leads_straight(edge, n) => Giving::Straight,
-        Some(_) | None => Giving::AlongEdges,
-    }
-}
-
-/// To which points a point gives something.
-fn giving_of(graph: &Graph, n: u32) -> Giving
+/// To which points a point gives something, as it is told of one that is rare.
+fn rare_giving(graph: &Graph, n: u32) -> Giving
     requires { n < length graph.now.parts.points.items }
-    ensures { (p : Program) → Tells p graph.now.parts → GivesSo p n result }
+    ensures so { (p : Program) → Tells p graph.now.parts → GivesSo p n result }
+    ensures not_straight { result ≢ Giving.Straight }
 {
     if is_special(graph, n) {
         Giving::Special
     } else {
-        ordinary_giving(graph, n)
+        Giving::AlongEdges
     }
 }
 
 /// How states pass a point, whatever it is, whose owner is checked or not.
-#[inline(never)]
-fn rare_passage(graph: &Graph, n: u32, is_unchecked: bool) -> Passage
+pub(crate) fn rare_passage(graph: &Graph, n: u32, is_checked: bool) -> Passage
     requires point { n < length graph.now.parts.points.items }
-    requires unchecked { (p : Program) → Tells p graph.now.parts → is_unchecked ≡ p.unchecked n }
-    ensures { (p : Program) → Tells p graph.now.parts → IsPassage p n result }
+    requires checked { (p : Program) → Tells p graph.now.parts → is_checked ≡ not (p.unchecked n) }
+    ensures passage { (p : Program) → Tells p graph.now.parts → IsPassage p n result }
+    ensures not_straight { result.giving ≢ Giving.Straight }
 {
     Passage {
-        is_open: !is_unchecked && takes_states(graph, n),
+        is_open: is_checked && takes_states(graph, n),
         is_neutral: is_neutral(graph.insn(n).op),
-        giving: giving_of(graph, n),
+        giving: rare_giving(graph, n),
     }
 }
 
-/// How states pass a usual point with this operation, whose owner is checked or not.
+/// How states pass a usual point with this operation, whose owner is checked, and which gives to such points.
 #[inline(always)]
-fn usual_passage(graph: &Graph, n: u32, op: Op, is_unchecked: bool) -> Passage
-    requires point { n < length graph.now.parts.points.items }
-    requires unchecked { (p : Program) → Tells p graph.now.parts → is_unchecked ≡ p.unchecked n }
-    requires op { (p : Program) → Tells p graph.now.parts → op ≡ (p.insn n).op }
-    requires hint { (p : Program) → Tells p graph.now.parts → p.hint n ≡ None }
-    requires first { (p : Program) → Tells p graph.now.parts → state_at p 0 n ≡ None }
-    requires meant { (p : Program) → Tells p graph.now.parts → (r : ℕ) → Means p n r → ⊥ }
-    ensures { (p : Program) → Tells p graph.now.parts → IsPassage p n result }
+pub(crate) fn usual_passage(op: Op, giving: Giving) -> Passage
+    ensures passage { (p : Program) (n : ℕ) → op ≡ (p.insn n).op → p.unchecked n ≡ false → p.hint n ≡ None → GivesSo p n giving → IsPassage p n result }
+    ensures is_open { result.is_open ≡ true }
+    ensures giving { result.giving ≡ giving }
 {
     Passage {
-        is_open: !is_unchecked,
+        is_open: true,
         is_neutral: is_neutral(op),
-        giving: ordinary_giving(graph, n),
-    }
-}
-
-/// How states pass a point, whose owner is checked or not.
-#[inline(always)]
-pub(crate) fn passage_of(graph: &Graph, n: u32, is_unchecked: bool) -> Passage
-    requires point { n < length graph.now.parts.points.items }
-    requires unchecked { (p : Program) → Tells p graph.now.parts → is_unchecked ≡ p.unchecked n }
-    ensures { (p : Program) → Tells p graph.now.parts → IsPassage p n result }
-{
-    match graph.usual_op(n) {
-        Some(op) => usual_passage(graph, n, op, is_unchecked),
-        None => rare_passage(graph, n, is_unchecked),
+        giving,
     }
 }
 
@@ -204,22 +181,80 @@ pub(crate) fn passage_at(passages: &[Passage], n: u32) -> Passage
     passages[n as usize]
 }
 
-/// The next point, where a point gives something to that one alone, and states come in there.
+/// Whether a point gives something to the next point alone.
 #[inline(always)]
-pub(crate) fn straight_next(passages: &[Passage], n: u32) -> Option<u32>
-    requires { n < length passages.now }
-    ensures number { IfSome result (λ next. (next ≡ n + 1) × (next < length passages.now)) }
-    ensures straight { IsSome result → (p : Program) → ArePassages p passages.now → IsStraight p n }
+pub(crate) fn goes_straight(passages: &[Passage], n: u32) -> bool
+    requires point { n < length passages.now }
+    requires linked { AreLinked passages.now (length passages.now) }
+    ensures next { IsTrue result → n + 1 < length passages.now }
+    ensures fits { IsTrue result → n + 1 < 2 ^ 32 }
+    ensures straight { IsTrue result → (p : Program) → ArePassages p passages.now → IsStraight p n }
 {
-    let passage = passage_at(passages, n);
-    if !passage.is_straight() {
-        return None;
+    match passages[n as usize].giving {
+        Giving::Straight => true,
+        Giving::AlongEdges | Giving::Special => false,
     }
-    let next = n.checked_add(1)?;
-    if (next as usize) < passages.len() && passage_at(passages, next).is_open {
-        Some(next)
+}
+
+/// Lets a point give along its edges that may be told to give to the next one alone, where none comes in.
+fn unlink(passages: &mut Vec<Passage>, n: u32)
+    requires { n < length passages.old.items }
+    ensures passages { length passages.new.items ≡ length passages.old.items }
+    ensures told { (p : Program) (m : ℕ) → AreToldBelow p passages.old.items m → AreToldBelow p passages.new.items m }
+    ensures linked { (m : ℕ) → AreLinked passages.old.items m → AreLinked passages.new.items m }
+    ensures unlinked { (d : PassageValue) → (slice_index_or passages.new.items n d).giving ≢ Giving.Straight }
+{
+    let passage = passages[n as usize];
+    match passage.giving {
+        Giving::Straight => {
+            passages[n as usize] = Passage {
+                giving: Giving::AlongEdges,
+                ..passage
+            };
+        }
+        Giving::AlongEdges | Giving::Special => {}
+    }
+}
+
+/// Lets the point before another one give along its edges, if it may be told to give to that one alone.
+fn unlink_before(passages: &mut Vec<Passage>, n: u32)
+    requires { n < length passages.old.items }
+    ensures passages { length passages.new.items ≡ length passages.old.items }
+    ensures told { (p : Program) (m : ℕ) → AreToldBelow p passages.old.items m → AreToldBelow p passages.new.items m }
+    ensures linked { (m : ℕ) → AreLinked passages.old.items m → AreLinked passages.new.items m }
+    ensures unlinked { (k : ℕ) (d : PassageValue) → k + 1 ≡ n → (slice_index_or passages.new.items k d).giving ≢ Giving.Straight }
+{
+    if n > 0 {
+        unlink(passages, n - 1);
+    }
+}
+
+/// Tells how states pass the next point. If none comes in there, no point gives to it alone.
+#[inline(always)]
+pub(crate) fn tell_linked(passages: &mut Vec<Passage>, n: u32, passage: Passage)
+    requires inside { n < length passages.old.items }
+    requires own { passage.giving ≡ Giving.Straight → (n + 1 < 2 ^ 32) × (n + 1 < length passages.old.items) }
+    requires before { (k : ℕ) (d : PassageValue) → k + 1 ≡ n → (slice_index_or passages.old.items k d).giving ≡ Giving.Straight → passage.is_open ≡ true }
+    ensures passages { length passages.new.items ≡ length passages.old.items }
+    ensures told { (p : Program) → AreToldBelow p passages.old.items n → IsPassage p n passage → AreToldBelow p passages.new.items (n + 1) }
+    ensures linked { AreLinked passages.old.items n → AreLinked passages.new.items (n + 1) }
+{
+    passages[n as usize] = passage;
+}
+
+/// Tells how states pass the next point, which doesn't give to the one behind it alone.
+pub(crate) fn tell_passage(passages: &mut Vec<Passage>, n: u32, passage: Passage)
+    requires inside { n < length passages.old.items }
+    requires own { passage.giving ≢ Giving.Straight }
+    ensures passages { length passages.new.items ≡ length passages.old.items }
+    ensures told { (p : Program) → AreToldBelow p passages.old.items n → IsPassage p n passage → AreToldBelow p passages.new.items (n + 1) }
+    ensures linked { AreLinked passages.old.items n → AreLinked passages.new.items (n + 1) }
+{
+    if passage.is_open {
+        tell_linked(passages, n, passage);
     } else {
-        None
+        unlink_before(passages, n);
+        tell_linked(passages, n, passage);
     }
 }
 

@@ -3,7 +3,8 @@
 ghost use Rattle.std.specs.Prelude.{◌≡◌, ◌≢◌, ◌<◌, ◌++◌, ◌∷◌, ℕ, [], IfOk, IsTrue, None, Some, length, slice_get, slice_set, true, vec_capacity};
 ghost use Rattle.state_defs.specs.Move.{has_near_numbers};
 ghost use Rattle.state_defs.specs.Row.{unfit_offset};
-ghost use Rattle.kept_states.specs.Packed.{numbers_at, state_of};
+ghost use Rattle.kept_states.specs.declared.parts.Numbers.{Numbers as NumbersValue};
+ghost use Rattle.kept_states.specs.Packed.{numbers_at, state_in, state_of};
 ghost use Rattle.kept_states.specs.Region.{RegionStates};
 
 use crate::packed::PackedState;
@@ -60,6 +61,15 @@ impl Region {
         ensures { slice_get self.now.list place ≡ Some result }
     {
         self.packed(place).state()
+    }
+
+    /// The slot at a place.
+    #[inline(always)]
+    pub(crate) fn slot(&self, place: usize) -> Slot
+        requires { place < length self.now.list }
+        ensures { (wide : NumbersValue) × (slice_get self.now.list place ≡ Some (state_in result wide)) }
+    {
+        self.slots[place]
     }
 
     /// The state at a place, packed.

@@ -1,13 +1,16 @@
 //! Runs of neighbouring points with one owner, and how states pass their points.
 
-ghost use Rattle.std.specs.Prelude.{◌≡◌, ◌+◌, ◌<◌, ◌≤◌, length};
+ghost use Rattle.std.specs.Prelude.{◌≡◌, ◌+◌, ◌<◌, ◌≤◌, All, length, not};
 ghost use Rattle.machine_defs.specs.Program.{Program};
 ghost use Rattle.program_graph.specs.Tells.{Tells};
-ghost use Rattle.kept_states.specs.Passages.{AreToldBelow};
+ghost use Rattle.kept_states.specs.Passages.{AreLinked, AreToldBelow};
 
 use crate::alike::FEW_EDGES;
-use crate::passages::{Passage, passage_at, passage_of};
-use machine_defs::EdgeKind;
+use crate::passages::{
+    Giving, Passage, lead_straight, passage_at, rare_passage, tell_linked, tell_passage,
+    usual_passage,
+};
+use machine_defs::{Edge, EdgeKind};
 use ot_base::Place;
 use program_graph::Graph;
 
@@ -50,17 +53,11 @@ fn sites_below(graph: &Graph, least: usize, place: Place) -> usize {
     sites.len()
 }
 
-/// Whether states go from a point of a run, which begins at `from`, to code of another owner. A point that has the edges of
-/// an earlier one of the run isn't asked, as that one is.
-fn leads_away(graph: &Graph, n: u32, from: u32) -> bool
-    requires { n < length graph.now.parts.points.items }
+/// Whether states go along one of these edges from a point to code of another owner.
+fn goes_away(graph: &Graph, n: u32, edges: &[Edge]) -> bool
+    requires point { n < length graph.now.parts.points.items }
+    requires within { All (λ e. e.to < length graph.now.parts.points.items) edges.now }
 {
-    let edges = graph.successors(n);
-    if edges.len() > FEW_EDGES
-        && let Some(first) = graph.alike(n)
-    {
-        return first < from || n <= first;
-    }
     for edge in edges {
         if edge.kind != EdgeKind::Sibling && !graph.have_one_owner(edge.to, n) {
             return true;
@@ -69,42 +66,97 @@ fn leads_away(graph: &Graph, n: u32, from: u32) -> bool
     false
 }
 
-/// Whether the owner of a point isn't checked, where it is known of another point.
-fn is_unchecked_as(graph: &Graph, n: u32, other: u32, is_unchecked: bool) -> bool
+/// Whether states go along one of the many edges of a point of a run, which begins at `from`, to code of another owner. A
+/// point that has the edges of an earlier one of the run isn't asked, as that one is.
+#[inline(never)]
+fn many_lead_away(graph: &Graph, n: u32, from: u32, edges: &[Edge]) -> bool
     requires point { n < length graph.now.parts.points.items }
-    requires other { other < length graph.now.parts.points.items }
-    requires known { (p : Program) → Tells p graph.now.parts → is_unchecked ≡ p.unchecked other }
-    ensures { (p : Program) → Tells p graph.now.parts → result ≡ p.unchecked n }
+    requires within { All (λ e. e.to < length graph.now.parts.points.items) edges.now }
 {
-    if graph.are_together(n, other) {
-        is_unchecked
-    } else {
-        graph.unchecked(n)
+    match graph.alike(n) {
+        Some(first) => first < from || n <= first,
+        None => goes_away(graph, n, edges),
     }
 }
 
-/// Tells how states pass a point of such a run, whose first point is known to be checked or not, and whether they go from it
-/// to code of another owner. A point that gives to the next one alone isn't asked: that one is of the run too, unless the
-/// run ends there.
+/// Whether states go along one of the edges of a point of a run, which begins at `from`, to code of another owner.
+#[inline(always)]
+fn leads_away(graph: &Graph, n: u32, from: u32, edges: &[Edge]) -> bool
+    requires point { n < length graph.now.parts.points.items }
+    requires within { All (λ e. e.to < length graph.now.parts.points.items) edges.now }
+{
+    if edges.len() > FEW_EDGES {
+        return many_lead_away(graph, n, from, edges);
+    }
+    goes_away(graph, n, edges)
+}
+
+/// Whether the owner of a point is checked, where it is known of another point.
+#[inline(always)]
+fn is_checked_as(graph: &Graph, n: u32, other: u32, is_checked: bool) -> bool
+    requires point { n < length graph.now.parts.points.items }
+    requires other { other < length graph.now.parts.points.items }
+    requires known { (p : Program) → Tells p graph.now.parts → is_checked ≡ not (p.unchecked other) }
+    ensures { (p : Program) → Tells p graph.now.parts → result ≡ not (p.unchecked n) }
+{
+    if graph.are_together(n, other) {
+        is_checked
+    } else {
+        !graph.unchecked(n)
+    }
+}
+
+/// Tells how states pass a point, whatever it is, whose owner is checked or not, and whether they go from it to code of another
+/// owner.
+#[inline(never)]
+fn tell_rare(
+    graph: &Graph,
+    passages: &mut Vec<Passage>,
+    n: u32,
+    from: u32,
+    is_checked: bool,
+) -> bool
+    requires point { n < length graph.now.parts.points.items }
+    requires checked { (p : Program) → Tells p graph.now.parts → is_checked ≡ not (p.unchecked n) }
+    requires passages { length passages.old.items ≡ length graph.now.parts.points.items }
+    ensures passages { length passages.new.items ≡ length passages.old.items }
+    ensures told { (p : Program) → Tells p graph.now.parts → AreToldBelow p passages.old.items n → AreToldBelow p passages.new.items (n + 1) }
+    ensures linked { AreLinked passages.old.items n → AreLinked passages.new.items (n + 1) }
+{
+    tell_passage(passages, n, rare_passage(graph, n, is_checked));
+    leads_away(graph, n, from, graph.successors(n))
+}
+
+/// Tells how states pass a point of a run, which begins at `from`, and whether they go from it to code of another owner. A
+/// point that gives to the next one alone isn't asked: that one is of the run too, unless the run ends there.
 #[inline(always)]
 fn tell_point(
     graph: &Graph,
     passages: &mut Vec<Passage>,
     n: u32,
     from: u32,
-    is_unchecked: bool,
+    is_checked: bool,
 ) -> bool
     requires point { n < length graph.now.parts.points.items }
-    requires from { from < length graph.now.parts.points.items }
-    requires unchecked { (p : Program) → Tells p graph.now.parts → is_unchecked ≡ p.unchecked from }
+    requires checked { (p : Program) → Tells p graph.now.parts → is_checked ≡ not (p.unchecked n) }
     requires passages { length passages.old.items ≡ length graph.now.parts.points.items }
     ensures passages { length passages.new.items ≡ length passages.old.items }
     ensures told { (p : Program) → Tells p graph.now.parts → AreToldBelow p passages.old.items n → AreToldBelow p passages.new.items (n + 1) }
+    ensures linked { AreLinked passages.old.items n → AreLinked passages.new.items (n + 1) }
 {
-    let passage = passage_of(graph, n, is_unchecked_as(graph, n, from, is_unchecked));
-    let is_away = !passage.is_straight() && leads_away(graph, n, from);
-    passages[n as usize] = passage;
-    is_away
+    if !is_checked {
+        return tell_rare(graph, passages, n, from, is_checked);
+    }
+    let Some(op) = graph.usual_op(n) else {
+        return tell_rare(graph, passages, n, from, is_checked);
+    };
+    let edges = graph.successors(n);
+    if lead_straight(edges, n) {
+        tell_linked(passages, n, usual_passage(op, Giving::Straight));
+        return false;
+    }
+    tell_linked(passages, n, usual_passage(op, Giving::AlongEdges));
+    leads_away(graph, n, from, edges)
 }
 
 /// Whether alternatives stand at a point: it is of a replacement, or the first of a site.
@@ -116,17 +168,19 @@ fn has_alternatives(graph: &Graph, n: u32, sites_below: usize) -> bool
 }
 
 /// The run that begins at a point, behind another run. Tells how states pass its points.
+#[inline(never)]
 pub(crate) fn tell_run(graph: &Graph, passages: &mut Vec<Passage>, from: u32, before: Run) -> Run
     requires point { from < length graph.now.parts.points.items }
     requires passages { length passages.old.items ≡ length graph.now.parts.points.items }
     ensures passages { length passages.new.items ≡ length passages.old.items }
     ensures told { (p : Program) → Tells p graph.now.parts → AreToldBelow p passages.old.items from → AreToldBelow p passages.new.items result.end }
+    ensures linked { AreLinked passages.old.items from → AreLinked passages.new.items result.end }
     ensures more { from < result.end }
     ensures within { result.end ≤ length graph.now.parts.points.items }
 {
     let sites = sites_below(graph, before.sites, graph.place(from));
-    let is_unchecked = graph.unchecked(from);
-    let is_away = tell_point(graph, passages, from, from, is_unchecked);
+    let is_checked = !graph.unchecked(from);
+    let is_away = tell_point(graph, passages, from, from, is_checked);
     let mut is_mixed = is_away
         || graph.owner(from).is_none()
         || has_alternatives(graph, from, sites);
@@ -139,8 +193,10 @@ pub(crate) fn tell_run(graph: &Graph, passages: &mut Vec<Passage>, from: u32, be
                 sites,
             };
         }
-        let is_away = tell_point(graph, passages, n, from, is_unchecked);
-        is_mixed = is_mixed || is_away;
+        let is_checked_too = is_checked_as(graph, n, from, is_checked);
+        if tell_point(graph, passages, n, from, is_checked_too) {
+            is_mixed = true;
+        }
     }
     Run {
         end: graph.points(),

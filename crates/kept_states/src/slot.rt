@@ -97,7 +97,8 @@ impl Slot {
 
     /// Whether the numbers of the state stand elsewhere.
     pub(crate) fn is_wide(self) -> bool
-        ensures { result ≡ self.is_wide }
+        ensures wide { result ≡ self.is_wide }
+        ensures near { result ≡ false → (wide : NumbersValue) → has_near_numbers (state_in self wide) ≡ true }
     {
         self.is_wide
     }
@@ -179,8 +180,83 @@ impl Slot {
         })
     }
 
-    /// The slot of the state after an operation, where that pushes or pops a word and it is quickly seen that it isn't
-    /// refused.
+    /// The slot of a live state that isn't wide, after rsp is raised by a number, or lowered where that is negative.
+    fn raised(self, by: i64) -> Option<Slot>
+        ensures { IfSome result (λ slot. (wide other : NumbersValue) → move (state_in self wide) (Op.AddSp by) ≡ Ok (state_in slot other)) }
+    {
+        if self.is_wide || !is_live(self.shape) || !has_16_bits(by) {
+            return None;
+        }
+        let depth = self.depth as i64 - by;
+        if !has_16_bits(depth) || depth < floor(self.shape, self.home) as i64 {
+            return None;
+        }
+        Some(Slot {
+            shape: self.shape,
+            is_wide: false,
+            depth: depth as i16,
+            fp: self.fp,
+            home: self.home,
+        })
+    }
+
+    /// The slot of a state that isn't wide after rbp is pushed, where the depth is known, the caller's rbp isn't saved yet, and
+    /// rbp is no frame pointer.
+    fn with_bp(self) -> Option<Slot>
+        ensures { IfSome result (λ slot. (wide other : NumbersValue) → move (state_in self wide) Op.PushBp ≡ Ok (state_in slot other)) }
+    {
+        if self.is_wide || self.depth > i16::MAX - WORD {
+            return None;
+        }
+        let depth = self.depth + WORD;
+        match self.shape {
+            Shape::Known => Some(Slot {
+                shape: Shape::KnownSaved,
+                is_wide: false,
+                depth,
+                fp: 0,
+                home: depth,
+            }),
+            _ => None,
+        }
+    }
+
+    /// The slot of a state that isn't wide after rbp is popped, where the depth is known, and the caller's rbp is saved there.
+    fn with_callers_bp(self) -> Option<Slot>
+        ensures { IfSome result (λ slot. (wide other : NumbersValue) → move (state_in self wide) Op.PopBp ≡ Ok (state_in slot other)) }
+    {
+        if self.is_wide || self.depth < i16::MIN + WORD {
+            return None;
+        }
+        if self.depth != self.home {
+            return None;
+        }
+        let depth = self.depth - WORD;
+        match self.shape {
+            Shape::KnownSaved => Some(Slot {
+                shape: Shape::Known,
+                is_wide: false,
+                depth,
+                fp: 0,
+                home: 0,
+            }),
+            _ => None,
+        }
+    }
+
+    /// The slot of a state that isn't wide after rbp is lost, where that leaves it as it is: the depth and the place where the
+    /// caller's rbp is saved are known, and rbp is no frame pointer.
+    fn without_bp(self) -> Option<Slot>
+        ensures { IfSome result (λ slot. (wide other : NumbersValue) → move (state_in self wide) Op.BpOther ≡ Ok (state_in slot other)) }
+    {
+        match self.shape {
+            Shape::KnownSaved if !self.is_wide => Some(self),
+            _ => None,
+        }
+    }
+
+    /// The slot of the state after an operation, where that pushes or pops, adds to rsp or loses rbp, and it is quickly seen that
+    /// it isn't refused.
     #[inline(always)]
     pub(crate) fn quickly_moved(self, op: Op) -> Option<Slot>
         ensures { IfSome result (λ slot. (wide other : NumbersValue) → move (state_in self wide) op ≡ Ok (state_in slot other)) }
@@ -188,6 +264,10 @@ impl Slot {
         match op {
             Op::Push | Op::Hop => self.pushed(),
             Op::Pop | Op::Popf => self.popped(),
+            Op::BpOther => self.without_bp(),
+            Op::AddSp { by } => self.raised(by),
+            Op::PushBp => self.with_bp(),
+            Op::PopBp => self.with_callers_bp(),
             _ => None,
         }
     }

@@ -5,7 +5,7 @@
 //! those of level 0, no point is reached from two batches; so each has the level and the state that it has where states
 //! spread from all points of level 0 at once. Where one does, they spread from all at once, from the beginning.
 
-ghost use Rattle.std.specs.Prelude.{◌≡◌, ◌≢◌, ◌+◌, ◌<◌, ◌↔◌, ℕ, List, [], None, Some, All, Contains, IfOk, IsSome, IsTrue, Ok, length, true};
+ghost use Rattle.std.specs.Prelude.{◌≡◌, ◌≢◌, ◌+◌, ◌<◌, ◌≤◌, ◌↔◌, ℕ, List, [], None, Some, All, Contains, IfOk, IsSome, IsTrue, Ok, length, true};
 ghost use Rattle.state_defs.specs.Move.{has_near_numbers, move};
 ghost use Rattle.state_defs.specs.Row.{unfit_offset};
 ghost use Rattle.machine_defs.specs.Program.{Program, IsPoint};
@@ -15,16 +15,16 @@ ghost use Rattle.program_graph.specs.Tells.{Tells};
 ghost use Rattle.kept_states.specs.Batches.{AreFirst, InBatch, MetNoSettled};
 ghost use Rattle.kept_states.specs.Done.{HaveGivenAll};
 ghost use Rattle.kept_states.specs.LevelStates.{StaysSame, at};
-ghost use Rattle.kept_states.specs.Passages.{ArePassages};
+ghost use Rattle.kept_states.specs.Passages.{AreLinked, ArePassages};
 ghost use Rattle.kept_states.specs.Ranks.{AreSpread};
 ghost use Rattle.kept_states.specs.Told.{HaveGiven};
 
 use crate::alike::giving_edges;
 use crate::batches::{spread_batches, tell_points};
-use crate::gifts::{give_along, give_to_restore, offer_moved};
+use crate::gifts::{give_along, give_to_restore, lasting_slot, offer_moved};
 use crate::levels::Levels;
 use crate::packed::PackedState;
-use crate::passages::{Passage, no_passages, passage_at, restores_of, straight_next};
+use crate::passages::{Passage, goes_straight, no_passages, passage_at, restores_of};
 use operation_defs::Op;
 use ot_base::NoMemory;
 use program_graph::Graph;
@@ -72,12 +72,12 @@ fn give_each(graph: &Graph, passages: &[Passage], levels: &mut Levels, i: usize)
     ensures given { (p : Program) → Tells p graph.now.parts → HaveGiven p levels.new (i + 1) }
 {
     let a = levels.front(i);
-    let state = levels.front_state(i);
+    let lasting = lasting_slot(passages, levels, i, a);
     for edge in giving_edges(graph, levels, i, a) {
-        give_along(graph, passages, levels, state, a, *edge);
+        give_along(graph, passages, levels, i, a, lasting, *edge);
     }
     for restore in restores_of(graph, passages, a) {
-        give_to_restore(graph, levels, state, *restore);
+        give_to_restore(graph, levels, i, *restore);
     }
 }
 
@@ -87,6 +87,7 @@ fn give(graph: &Graph, passages: &[Passage], levels: &mut Levels, i: usize)
     requires points { length levels.old.kept ≡ length graph.now.parts.points.items }
     requires passages { length passages.now ≡ length graph.now.parts.points.items }
     requires told { (p : Program) → Tells p graph.now.parts → ArePassages p passages.now }
+    requires linked { AreLinked passages.now (length passages.now) }
     requires next { length levels.old.next.states ≡ length levels.old.kept }
     requires inside { i < length levels.old.front }
     requires done { (p : Program) → Tells p graph.now.parts → HaveGivenAll p levels.old }
@@ -99,9 +100,9 @@ fn give(graph: &Graph, passages: &[Passage], levels: &mut Levels, i: usize)
     ensures given { (p : Program) → Tells p graph.now.parts → HaveGiven p levels.new (i + 1) }
 {
     let a = levels.front(i);
-    if let Some(next) = straight_next(passages, a) {
-        let state = levels.front_state(i);
-        offer_moved(graph, passages, levels, state, a, next);
+    if goes_straight(passages, a) {
+        let lasting = lasting_slot(passages, levels, i, a);
+        offer_moved(graph, levels, i, a, lasting, a + 1);
     } else {
         give_each(graph, passages, levels, i);
     }
@@ -112,6 +113,7 @@ fn give_all(graph: &Graph, passages: &[Passage], levels: &mut Levels)
     requires points { length levels.old.kept ≡ length graph.now.parts.points.items }
     requires passages { length passages.now ≡ length graph.now.parts.points.items }
     requires told { (p : Program) → Tells p graph.now.parts → ArePassages p passages.now }
+    requires linked { AreLinked passages.now (length passages.now) }
     requires next { length levels.old.next.states ≡ length levels.old.kept }
     requires none { (q : ℕ) → at levels.old.next.states q ≡ None }
     requires done { (p : Program) → Tells p graph.now.parts → HaveGivenAll p levels.old }
@@ -146,6 +148,7 @@ pub(crate) fn offer_first(graph: &Graph, levels: &mut Levels, n: u32)
 }
 
 /// Offers a point its state of level 0, where it was offered none yet.
+#[inline(never)]
 fn offer_missing_first(graph: &Graph, passages: &[Passage], levels: &mut Levels, n: u32)
     requires points { length levels.old.kept ≡ length graph.now.parts.points.items }
     requires passages { length passages.now ≡ length graph.now.parts.points.items }
@@ -167,7 +170,35 @@ fn offer_missing_first(graph: &Graph, passages: &[Passage], levels: &mut Levels,
     }
 }
 
-/// Offers each point its state of level 0 that was offered none yet.
+/// Whether a point isn't special.
+#[inline(always)]
+fn is_ordinary(passages: &[Passage], n: usize) -> bool
+    requires { n < length passages.now }
+    ensures { IsTrue result → (p : Program) → ArePassages p passages.now → state_at p 0 n ≡ None }
+{
+    !passages[n].is_special()
+}
+
+/// Whether none of four neighbouring points is special.
+#[inline(always)]
+fn are_ordinary(passages: &[Passage], n: u32) -> bool
+    requires { n + 4 ≤ length passages.now }
+    ensures { IsTrue result → (p : Program) → ArePassages p passages.now → (q : ℕ) → n ≤ q → q < n + 4 → state_at p 0 q ≡ None }
+{
+    let n = n as usize;
+    if !is_ordinary(passages, n) {
+        return false;
+    }
+    if !is_ordinary(passages, n + 1) {
+        return false;
+    }
+    if !is_ordinary(passages, n + 2) {
+        return false;
+    }
+    is_ordinary(passages, n + 3)
+}
+
+/// Offers each point its state of level 0 that was offered none yet. Few points are special.
 fn offer_all_first(graph: &Graph, passages: &[Passage], levels: &mut Levels)
     requires points { length levels.old.kept ≡ length graph.now.parts.points.items }
     requires passages { length passages.now ≡ length graph.now.parts.points.items }
@@ -179,8 +210,18 @@ fn offer_all_first(graph: &Graph, passages: &[Passage], levels: &mut Levels)
     ensures next { length levels.new.next.states ≡ length levels.old.kept }
     ensures first { (p : Program) → Tells p graph.now.parts → (q : ℕ) → IsPoint p q → at levels.new.next.states q ≡ state_at p 0 q }
 {
-    for n in 0..graph.points() {
-        offer_missing_first(graph, passages, levels, n);
+    let points = graph.points();
+    let mut n = 0;
+    'points: loop {
+        if n == points {
+            return;
+        }
+        if 4 <= points - n && are_ordinary(passages, n) {
+            n += 4;
+        } else {
+            offer_missing_first(graph, passages, levels, n);
+            n += 1;
+        }
     }
 }
 
@@ -209,6 +250,7 @@ pub(crate) fn spread_levels(graph: &Graph, passages: &[Passage], levels: &mut Le
     requires points { length levels.old.kept ≡ length graph.now.parts.points.items }
     requires passages { length passages.now ≡ length graph.now.parts.points.items }
     requires told { (p : Program) → Tells p graph.now.parts → ArePassages p passages.now }
+    requires linked { AreLinked passages.now (length passages.now) }
     requires next { length levels.old.next.states ≡ length levels.old.kept }
     requires none { (q : ℕ) → at levels.old.next.states q ≡ None }
     requires front { All (λ q. q < length levels.old.kept) levels.old.front }

@@ -1,15 +1,19 @@
--- A neutral operation leaves a state with near numbers as it is.
-use Rattle.std.proofs.Common.{◌≡◌, true, List, ap, sym, ◌∙◌}
+-- The state in the slot is the one that is kept, and is what its move is.
+use Rattle.std.proofs.Common.{◌≡◌, [], ◌∷◌, List, Option, refl, ap, sym, ◌∙◌, subst}
+use Rattle.std.specs.Prelude.{IfSome}
 use Rattle.state_defs.specs.declared.state.State.{State}
-use Rattle.state_defs.specs.Move.{has_near_numbers}
-use Rattle.kept_states.specs.Neutral.{is_neutral}
-use Rattle.kept_states.specs.Packed.{state_of}
-use Rattle.kept_states.specs.Told.{offer_all}
-use Rattle.kept_states.proofs.NeutralMoves.{moved_stays}
+use Rattle.state_defs.specs.Move.{move}
+use Rattle.machine_defs.specs.Kept.{moved}
+use Rattle.kept_states.specs.declared.slot.Slot.{Slot}
+use Rattle.kept_states.specs.LevelStates.{at}
+use Rattle.kept_states.specs.Packed.{no_numbers, state_in}
+use Rattle.kept_states.specs.Told.{Lasts, offer_all}
+use Rattle.kept_states.proofs.Slots.{of_state}
 use Rattle.kept_states.proofs.gifts.offer_moved.Goals as goal
 
-pub returns-then-is_short-clause-next : goal.returns-then-is_short-clause-next
-returns-then-is_short-clause-next c p t =
-    let neutral : is_neutral (p.insn c.args.from).op ≡ true = sym (c.passage_at.ensures p (c.requires.told p t)).neutral ∙ c.if-passage_at.true in
-    let near : has_near_numbers (state_of c.args.state) ≡ true = c.is_short.ensures.near c.if-is_short.true c.args.state.wide in
-    c.offer.ensures.next ∙ ap (λ (gifts : List State). offer_all c.args.levels.now.kept c.args.levels.now.next c.args.to gifts) (sym (moved_stays (state_of c.args.state) (p.insn c.args.from).op neutral near))
+pub returns-in-Some-clause-next : goal.returns-in-Some-clause-next
+returns-in-Some-clause-next c p s t has =
+    let state : State = state_in c.in-Some.slot no_numbers in
+    let lasts : Lasts p c.args.levels.now.kept c.args.from c.in-Some.slot = subst (λ (o : Option Slot). IfSome o (Lasts p c.args.levels.now.kept c.args.from)) c.in-Some.is (c.requires.lasting p t) in
+    let same : s ≡ state = of_state (λ (u : State). u ≡ state) (at c.args.levels.now.kept c.args.from) state lasts.0 refl s has in
+    c.offer.ensures.next ∙ ap (λ (gifts : List State). offer_all c.args.levels.now.kept c.args.levels.now.next c.args.to gifts) (sym (subst (λ (u : State). moved (move u (p.insn c.args.from).op) ≡ state ∷ []) (sym same) lasts.1))

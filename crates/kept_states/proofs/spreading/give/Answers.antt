@@ -1,32 +1,31 @@
 -- A state that goes straight on is all that its point gives.
-use Rattle.std.proofs.Common.{◌≡◌, ℕ, ◌+◌, ◌<◌, List, Option, Some, length, take, refl, ap, sym, ◌∙◌, subst, arith}
+use Rattle.std.proofs.Common.{◌≡◌, ℕ, ◌+◌, ◌<◌, List, Option, Some, length, take, sym, ◌∙◌, subst, arith}
 use Rattle.state_defs.specs.declared.state.State.{State}
 use Rattle.state_defs.specs.Move.{move}
 use Rattle.machine_defs.specs.Kept.{moved}
 use Rattle.kept_states.specs.Gives.{IsGiven}
 use Rattle.kept_states.specs.LevelStates.{Offers, at}
-use Rattle.kept_states.specs.Packed.{state_of}
-use Rattle.kept_states.specs.Passages.{IsStraight}
 use Rattle.kept_states.specs.Told.{AreLeast, offer_all}
+use Rattle.kept_states.proofs.LevelSteps.{state_of_some}
 use Rattle.kept_states.proofs.Straight.{straight_given}
 use Rattle.kept_states.proofs.spreading.give.Goals as goal
 
-pub returns-in-Some-clause-given : goal.returns-in-Some-clause-given
-returns-in-Some-clause-given c p t =
+pub returns-then-goes_straight-clause-given : goal.returns-then-goes_straight-clause-given
+returns-then-goes_straight-clause-given c p t =
     let a : ℕ = c.front-a.result in
     let kept : List (Option State) = c.args.levels.now.kept in
     let front : List ℕ = c.args.levels.now.front in
     let before : Offers = c.args.levels.now.next in
-    let s : State = state_of c.front_state-state.result in
-    let has : at kept a ≡ Some s = ap (at kept) c.front-a.ensures.front ∙ c.front_state-state.ensures in
-    let number : c.in-Some.next ≡ a + 1 = c.in-Some.ensures.number.0 in
-    let within : c.in-Some.next < length c.args.passages.now = c.in-Some.ensures.number.1 in
-    let straight : IsStraight p a = c.in-Some.ensures.straight refl p (c.requires.told p t) in
-    let inside : a + 1 < length before.states = omega (arith, number, within, c.requires.passages, c.requires.points, c.requires.next) in
+    let w = state_of_some (at kept a) c.front-a.ensures.kept in
+    let s : State = w.0 in
+    let has : at kept a ≡ Some s = w.1 in
+    let inside : a + 1 < length before.states = omega (arith, c.goes_straight.ensures.next c.if-goes_straight.true, c.requires.passages, c.requires.points, c.requires.next) in
     let given : AreLeast kept (offer_all kept before (a + 1) (moved (move s (p.insn a).op))) (IsGiven p (at kept) (take (c.args.i + 1) front)) =
-    straight_given p kept front c.args.i a c.requires.inside c.front-a.ensures.front (t.count ∙ sym c.requires.points) before s has straight inside (c.requires.given p t) in
-    let next : c.offer_moved.new.levels.next ≡ offer_all kept before (a + 1) (moved (move s (p.insn a).op)) = subst (λ (q : ℕ). c.offer_moved.new.levels.next ≡ offer_all kept before q (moved (move s (p.insn a).op))) number (c.offer_moved.ensures.next p t) in
+    straight_given p kept front c.args.i a c.requires.inside c.front-a.ensures.front (t.count ∙ sym c.requires.points) before s has (c.goes_straight.ensures.straight c.if-goes_straight.true p (c.requires.told p t)) inside (c.requires.given p t) in
     let more : AreLeast kept c.offer_moved.new.levels.next (IsGiven p (at kept) (take (c.args.i + 1) front)) =
-    subst (λ (offers : Offers). AreLeast kept offers (IsGiven p (at kept) (take (c.args.i + 1) front))) (sym next) given in
+    subst (λ (offers : Offers). AreLeast kept offers (IsGiven p (at kept) (take (c.args.i + 1) front))) (sym (c.offer_moved.ensures.next p s t has)) given in
     subst (λ (k : List (Option State)). AreLeast k c.offer_moved.new.levels.next (IsGiven p (at k) (take (c.args.i + 1) c.offer_moved.new.levels.front))) (sym c.offer_moved.ensures.kept)
     (subst (λ (f : List ℕ). AreLeast kept c.offer_moved.new.levels.next (IsGiven p (at kept) (take (c.args.i + 1) f))) (sym c.offer_moved.ensures.front) more)
+
+pub offer_moved-requires-clause-lasting : goal.offer_moved-requires-clause-lasting
+offer_moved-requires-clause-lasting c p t = c.lasting_slot-lasting.ensures p (c.requires.told p t)

@@ -1,10 +1,11 @@
 -- All that were reached are kept now.
-use Rattle.std.proofs.Common.{◌≡◌, ◌+◌, ◌≤◌, ◌⊎◌, None, Contains, IsSome, length, map, take, drop, subst, arith}
+use Rattle.std.proofs.Common.{◌≡◌, ◌+◌, ◌≤◌, ◌⊎◌, None, Contains, IsSome, length, map, take, drop, refl, subst, arith}
 use Rattle.machine_defs.specs.Kept.{kept_or}
 use Rattle.kept_states.specs.Done.{done_of}
 use Rattle.kept_states.specs.LevelStates.{LevelStates, at, count_open}
 use Rattle.kept_states.specs.Reached.{kept_at}
 use Rattle.kept_states.proofs.Places.{advanced, kept_then, none_then, in_front_then, fewer, front_length}
+use Rattle.kept_states.proofs.DonePoints.{front_given}
 use Rattle.kept_states.proofs.Firsts.{fresh_then}
 use Rattle.kept_states.proofs.levels.Levels.advance.Goals as goal
 
@@ -49,7 +50,9 @@ invariant_of-self c =
       record {
         front_in = few;
         front_kept = omega arith;
-        done_kept = c.with-self-inside.ensures.within (length c.self.inside.reached.items) (omega (arith, order.done_kept.0, few)) (omega (arith, order.done_kept.1, few)) (omega (arith, order.front_kept, few));
+        batch_kept = omega (arith, order.batch_kept, few);
+        begins = λ l. absurd (omega (arith, l, order.settled_in));
+        goes_on = λ l. refl;
         first_in = order.first_in;
         settled_in = omega (arith, order.settled_in, few);
       },
@@ -57,7 +60,5 @@ invariant_of-self c =
 
 pub returns-clause-done : goal.returns-clause-done
 returns-clause-done c q =
-    let few : c.self.inside.kept ≤ length c.self.inside.reached.items = c.self.invariant.2.ordered in
-    let order = c.self.invariant.3 in
-    subst (λ (v : LevelStates). Contains (done_of c.self.inside.settled c.with-self-inside.result c.self.inside.reached.items) q → Contains v.done q ⊎ Contains v.front q) c.self.view_is
-    (c.with-self-inside.ensures.more c.self.inside.settled c.self.inside.reached.items q (omega (arith, order.done_kept.1, few)) (omega (arith, order.front_kept, few)))
+    subst (λ (v : LevelStates). Contains (done_of c.self.inside.settled c.self.inside.kept c.self.inside.batch c.self.inside.reached.items) q → Contains v.done q ⊎ Contains v.front q) c.self.view_is
+    (front_given c.self.inside.front_from c.self.inside.front_to c.self.inside.batch c.self.inside.first c.self.inside.settled c.self.inside.kept c.self.inside.reached.items q c.self.invariant.3 c.self.invariant.2.ordered)

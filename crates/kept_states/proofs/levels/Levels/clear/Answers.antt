@@ -15,7 +15,7 @@ invariant_of-self c =
       omega (arith, long, c.clear.ensures.capacity, c.self.invariant.0),
       omega (arith, long, c.self.invariant.1),
       none_reached n (omega (arith, c.self.invariant.2.few)),
-      record { front_in = omega arith; front_kept = omega arith; done_kept = c.none-self-inside.ensures.within 0 (omega arith); first_in = omega arith; settled_in = omega arith },
+      record { front_in = omega arith; front_kept = omega arith; batch_kept = omega arith; begins = λ l. absurd (omega (arith, l)); goes_on = λ l. omega arith; first_in = omega arith; settled_in = omega arith },
     )
 
 pub returns-clause-kept : goal.returns-clause-kept

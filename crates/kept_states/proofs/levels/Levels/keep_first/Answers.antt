@@ -1,5 +1,5 @@
 -- All that were reached are of level 0.
-use Rattle.std.proofs.Common.{◌≡◌, length, map, subst, arith}
+use Rattle.std.proofs.Common.{◌≡◌, length, map, refl, subst, arith}
 use Rattle.machine_defs.specs.Kept.{kept_or}
 use Rattle.kept_states.specs.LevelStates.{LevelStates, at}
 use Rattle.kept_states.specs.Reached.{kept_at}
@@ -33,7 +33,9 @@ invariant_of-self c =
       record {
         front_in = omega arith;
         front_kept = omega arith;
-        done_kept = c.none-self-inside.ensures.within (length c.self.inside.reached.items) (omega (arith, len));
+        batch_kept = omega arith;
+        begins = λ l. (refl, refl, refl);
+        goes_on = λ l. omega (arith, l);
         first_in = omega arith;
         settled_in = omega arith;
       },

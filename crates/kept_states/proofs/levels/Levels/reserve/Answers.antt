@@ -11,7 +11,7 @@ invariant_of-result c =
     let reached : c.in_ok-with_capacity.field-0.items ≡ [] = c.in_ok-with_capacity.ensures.items in
     let region : c.in_ok-reserve.field-0 ≡ record { list = []; room = c.args.points } = c.in_ok-reserve.ensures in
     let long : length (replicate c.args.points nowhere) ≡ c.args.points = length-replicate c.args.points nowhere in
-    rw (places, reached, region) (omega (arith, long, c.in_ok-with_capacity.ensures.exact), omega (arith, long), none_reached c.args.points (omega arith), record { front_in = omega arith; front_kept = omega arith; done_kept = c.none.ensures.within 0 (omega arith); first_in = omega arith; settled_in = omega arith })
+    rw (places, reached, region) (omega (arith, long, c.in_ok-with_capacity.ensures.exact), omega (arith, long), none_reached c.args.points (omega arith), record { front_in = omega arith; front_kept = omega arith; batch_kept = omega arith; begins = λ l. absurd (omega (arith, l)); goes_on = λ l. omega arith; first_in = omega arith; settled_in = omega arith })
 
 pub returns : goal.returns
 returns c =

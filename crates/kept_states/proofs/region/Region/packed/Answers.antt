@@ -18,4 +18,4 @@ pub returns-else-is_wide : goal.returns-else-is_wide
 returns-else-is_wide c =
     let at : slice_get c.args.self.now.list c.args.place ≡ Some (state_in c.index-slot.result.now (numbers_at c.self.inside.wide.items c.args.place)) =
     state_at c.args.self.now c.self.inside.slots.items (numbers_at c.self.inside.wide.items) (vec_capacity c.self.inside.slots) c.self.view_is c.args.place c.index-slot.result.now c.requires c.index-slot.ensures in
-    at ∙ ap Some (not_wide c.index-slot.result.now (numbers_at c.self.inside.wide.items c.args.place) no_numbers (sym c.is_wide.ensures ∙ c.if-is_wide.false))
+    at ∙ ap Some (not_wide c.index-slot.result.now (numbers_at c.self.inside.wide.items c.args.place) no_numbers (sym c.is_wide.ensures.wide ∙ c.if-is_wide.false))

@@ -27,7 +27,7 @@ returns-then-is_wide c =
 pub returns-else-is_wide : goal.returns-else-is_wide
 returns-else-is_wide c =
     let last : c.len-place.result ≡ length c.self.inside.slots.items = omega (arith, c.len-place.ensures, c.self.inside.slots.ok) in
-    let short : c.args.state.slot.is_wide ≡ false = sym c.is_wide.ensures ∙ c.if-is_wide.false in
+    let short : c.args.state.slot.is_wide ≡ false = sym c.is_wide.ensures.wide ∙ c.if-is_wide.false in
     rw (c.push_reserved.ensures.items, c.push_reserved.ensures.capacity)
     (push_view c.args.self.now c.self.inside.slots.items (numbers_at c.self.inside.wide.items) (vec_capacity c.self.inside.slots) c.self.view_is (numbers_at c.self.inside.wide.items) c.len-place.result c.args.state.slot (state_of c.args.state) last (λ k ne. refl)
     (not_wide c.args.state.slot (numbers_at c.self.inside.wide.items c.len-place.result) c.args.state.wide short))

@@ -4,7 +4,7 @@ use Rattle.std.specs.Prelude.{int_lt, negsuc}
 use Rattle.std.proofs.lemmas.Int.{to_z-of_z}
 use Rattle.kept_states.specs.declared.slot.Slot.{Slot}
 use Rattle.kept_states.specs.Words.{is_live, floor_in}
-use Rattle.kept_states.proofs.WordMoves.{IsMoved, pop_slot, read_down, down_fits, over_floor}
+use Rattle.kept_states.proofs.WordMoves.{pop_slot, read_down, down_fits, over_floor}
 use Rattle.kept_states.proofs.slot.Slot.popped.Goals as goal
 
 pub returns : goal.returns

@@ -4,7 +4,7 @@ use Rattle.std.specs.Prelude.{int_lt}
 use Rattle.std.proofs.lemmas.Int.{to_z-of_z}
 use Rattle.kept_states.specs.declared.slot.Slot.{Slot}
 use Rattle.kept_states.specs.Words.{is_live}
-use Rattle.kept_states.proofs.WordMoves.{IsMoved, push_slot, read_up, up_fits}
+use Rattle.kept_states.proofs.WordMoves.{push_slot, read_up, up_fits}
 use Rattle.kept_states.proofs.slot.Slot.pushed.Goals as goal
 
 pub returns : goal.returns

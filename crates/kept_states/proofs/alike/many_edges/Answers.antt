@@ -3,7 +3,7 @@ use Rattle.std.proofs.Common.{inr, refl}
 use Rattle.kept_states.specs.LevelStates.{at}
 use Rattle.kept_states.proofs.DonePoints.{vain_after, vain_beside}
 use Rattle.kept_states.proofs.LevelSteps.{state_of_some}
-use Rattle.kept_states.proofs.alike.giving_edges.Goals as goal
+use Rattle.kept_states.proofs.alike.many_edges.Goals as goal
 
 pub returns-then-has_brought-clause-edges : goal.returns-then-has_brought-clause-edges
 returns-then-has_brought-clause-edges c p t given =

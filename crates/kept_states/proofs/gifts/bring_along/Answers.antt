@@ -1,0 +1,23 @@
+-- The state in the slot is the one that is kept, and is what its move is.
+use Rattle.std.proofs.Common.{◌≡◌, ◌≢◌, [], ◌∷◌, List, Option, refl, ap, sym, ◌∙◌, subst, rules}
+use Rattle.std.specs.Prelude.{IfSome}
+use Rattle.machine_defs.specs.declared.flow.EdgeKind.TheVariants.{Sibling}
+use Rattle.state_defs.specs.declared.state.State.{State}
+use Rattle.state_defs.specs.Move.{move}
+use Rattle.machine_defs.specs.Kept.{moved}
+use Rattle.kept_states.specs.declared.slot.Slot.{Slot}
+use Rattle.kept_states.specs.LevelStates.{at}
+use Rattle.kept_states.specs.Packed.{no_numbers, state_in}
+use Rattle.kept_states.specs.Told.{Lasts, offer_all}
+use Rattle.kept_states.proofs.PassageLemmas.{brought_same}
+use Rattle.kept_states.proofs.Slots.{of_state}
+use Rattle.kept_states.proofs.gifts.bring_along.Goals as goal
+
+pub returns-clause-next : goal.returns-clause-next
+returns-clause-next c p s t has =
+    let state : State = state_in c.in-Some.slot no_numbers in
+    let lasts : Lasts p c.args.levels.now.kept c.args.from c.in-Some.slot = subst (λ (o : Option Slot). IfSome o (Lasts p c.args.levels.now.kept c.args.from)) c.in-Some.is (c.requires.lasting p t) in
+    let same : s ≡ state = of_state (λ (u : State). u ≡ state) (at c.args.levels.now.kept c.args.from) state lasts.0 refl s has in
+    let other : c.args.edge.kind ≢ Sibling = search rules in
+    c.offer.ensures.next ∙ ap (λ (gifts : List State). offer_all c.args.levels.now.kept c.args.levels.now.next c.args.edge.to gifts)
+    (sym (brought_same s state (p.insn c.args.from).op c.args.edge.kind other (subst (λ (u : State). moved (move u (p.insn c.args.from).op) ≡ state ∷ []) (sym same) lasts.1) same))
