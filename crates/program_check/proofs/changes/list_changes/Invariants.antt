@@ -1,4 +1,4 @@
-use Rattle.std.proofs.Common.{◌≡◌, ◌≤◌, ◌<◌, ◌-◌, ℕ, true, List, [], Some, get_or, length}
+use Rattle.std.proofs.Common.{◌≡◌, ◌≤◌, ◌<◌, ◌-◌, ℕ, true, List, [], get_or, length}
 use Rattle.std.specs.Prelude.{IfSome}
 use Rattle.ot_base.specs.declared.row.PlacedRow.{PlacedRow}
 use Rattle.machine_defs.specs.Program.{Program}
@@ -11,15 +11,15 @@ use Rattle.program_check.specs.Checked.{IsCheckedBy}
 use Rattle.program_check.proofs.Merging.{IsSoFar}
 use Rattle.program_check.proofs.changes.list_changes.Given as goal
 
-abbrev pub invariant-loop-n : goal.invariant-loop-n
-invariant-loop-n l = record {
-  inside : IfSome l.held (λ h. h.point < length l.kept);
-  held : IfSome l.held (λ h. is_held l.rows.items h.sec (row_of_point (at l.kept) h.point) ≡ true);
-  to : l.from ≤ length l.graph.parts.points.items;
-  waiting : (p : Program) → Tells p l.graph.parts → (d : ℕ) → l.next < length l.in_sites → l.waiting ≡ Some (p.address (get_or l.in_sites l.next d));
+abbrev pub invariant-points : goal.invariant-points
+invariant-points l = record {
+  inside : IfSome l.held (λ h. h < length l.kept);
+  held : (p : Program) → Tells p l.graph.parts → IfSome l.held (λ h. is_held l.rows.items (p.place h).sec (row_of_point (at l.kept) h) ≡ true);
+  to : l.from ≤ length l.kept;
+  waiting : (p : Program) → Tells p l.graph.parts → (d : ℕ) → l.next < length l.in_sites → l.waiting ≡ p.address (get_or l.in_sites l.next d);
   within : l.next ≤ length l.in_sites;
   merged : (p : Program) → IsCheckedBy p l.graph.parts (at l.kept) → IsIndexOf p l.sites → AreRowsInSites p (at l.kept) (rows_in_sites p (at l.kept) l.in_sites) → (all : List PlacedRow) × IsSoFar p (at l.kept) (rows_in_sites p (at l.kept) l.in_sites) l.from l.next all × (l.rows.items ≡ add_all [] all);
 }
 
-abbrev pub decreases-loop-n : goal.decreases-loop-n
-decreases-loop-n l = length l.graph.parts.points.items - l.from
+abbrev pub decreases-points : goal.decreases-points
+decreases-points l = length l.kept - l.from
