@@ -1,12 +1,13 @@
 //! The rows that differ from the one before.
 
-ghost use Rattle.std.specs.Prelude.{◌≡◌, ◌≤◌, ◌<◌, [], All, IfOk, IfSome, IsTrue, List, MatchOption, None, OnOk, Some, length, slice_index_or, slice_range, true, false, ℕ};
+ghost use Rattle.std.specs.Prelude.{◌≡◌, ◌+◌, ◌≤◌, ◌<◌, [], All, IfOk, IfSome, IsSome, IsSomeAnd, IsTrue, List, MatchOption, None, OnOk, Some, length, slice_index_or, slice_range, true, false, ℕ};
 ghost use Rattle.ot_base.specs.declared.place.Place.{Place};
 ghost use Rattle.ot_base.specs.declared.row.PlacedRow.{PlacedRow};
 ghost use Rattle.ot_base.specs.Places.{is_before as is_lower};
 ghost use Rattle.machine_defs.specs.Program.{Program};
 ghost use Rattle.machine_defs.specs.IsProgram.{IsLaidOut};
 ghost use Rattle.machine_defs.specs.Rows.{placed, row_of_point};
+ghost use Rattle.table_defs.specs.Order.{PlainPointsAscend};
 ghost use Rattle.program_graph.specs.Tells.{Tells};
 ghost use Rattle.kept_states.specs.LevelStates.{at};
 ghost use Rattle.stack_rules.specs.Sites.{IsIndexOf};
@@ -173,6 +174,7 @@ fn plain_place(
     requires points { length kept.now ≡ length graph.now.parts.points.items }
     requires inside { n < length graph.now.parts.points.items }
     ensures place { IfSome result (λ place. (p : Program) → Tells p graph.now.parts → place ≡ p.place n) }
+    ensures plain { IsSome result → (p : Program) → Tells p graph.now.parts → p.variant n ≡ 0 }
     ensures begins { (p : Program) → Tells p graph.now.parts → IsIndexOf p sites.now → IsLaidOut p → MatchOption result (BeginsRow p (at kept.now) n → ⊥) (λ place. BeginsRow p (at kept.now) n × (place ≡ p.place n)) }
 {
     if graph.variant(n) != 0 {
@@ -187,101 +189,152 @@ fn plain_place(
     Some(place)
 }
 
-/// Up to which offset of a section no place lies behind another one, if there is one.
-#[inline(always)]
-fn last_before(waiting: Place, sec: u32) -> Option<u64>
-    ensures { IfSome result (λ last. (place : Place) → place.sec ≡ sec → place.off ≤ last → is_lower waiting place ≡ false) }
+/// Whether a point, by how far behind another one it is, is an instruction of the object's code in a section, and none that a place
+/// lies before.
+fn is_clear(graph: &Graph, waiting: Place, sec: u32, from: u32, step: u32) -> bool
+    requires { from < length graph.now.parts.points.items }
+    ensures within { IsTrue result → from + step < length graph.now.parts.points.items }
+    ensures plain { IsTrue result → (p : Program) → Tells p graph.now.parts → p.variant (from + step) ≡ 0 }
+    ensures sec { IsTrue result → (p : Program) → Tells p graph.now.parts → (p.place (from + step)).sec ≡ sec }
+    ensures clear { IsTrue result → (p : Program) → Tells p graph.now.parts → is_lower waiting (p.place (from + step)) ≡ false }
 {
-    if sec < waiting.sec {
-        return Some(u64::MAX);
+    if step >= graph.points() - from {
+        return false;
     }
-    if sec == waiting.sec {
-        return Some(waiting.off);
-    }
-    None
+    let place = graph.place(from + step);
+    graph.variant(from + step) == 0 && place.sec == sec && !is_before(waiting, place)
 }
 
-/// Whether the bytes of a point stand in a section, at an offset or before it.
-#[inline(always)]
-fn stands_before(graph: &Graph, n: u32, sec: u32, last: u64) -> bool
-    requires { n < length graph.now.parts.points.items }
-    ensures { IsTrue result → (p : Program) → Tells p graph.now.parts → ((p.place n).sec ≡ sec) × ((p.place n).off ≤ last) }
-{
-    let place = graph.place(n);
-    place.sec == sec && place.off <= last
-}
-
-/// The first point from one on that keeps another state than a kept point, as far as that is quickly seen, or that stands in another
-/// section or behind an offset. Where there is none, how many points there are.
-#[inline(always)]
-fn next_unlike(graph: &Graph, kept: &Kept, held: u32, sec: u32, last: u64, from: u32) -> u32
-    requires points { length kept.now ≡ length graph.now.parts.points.items }
-    requires held { held < length kept.now }
-    requires from { from ≤ length kept.now }
+/// The last point in a row, from one on, that is an instruction of the object's code in a section, and none that a place lies before.
+/// Where the first isn't, any point.
+#[inline(never)]
+fn last_clear(graph: &Graph, waiting: Place, sec: u32, from: u32) -> u32
+    requires { from < length graph.now.parts.points.items }
     ensures from { from ≤ result }
-    ensures within { result ≤ length kept.now }
-    ensures state { (k : ℕ) → from ≤ k → k < result → at kept.now held ≡ at kept.now k }
-    ensures place { (p : Program) → Tells p graph.now.parts → (k : ℕ) → from ≤ k → k < result → ((p.place k).sec ≡ sec) × ((p.place k).off ≤ last) }
+    ensures within { result < length graph.now.parts.points.items }
+    ensures plain { (p : Program) → Tells p graph.now.parts → p.variant from ≡ 0 → p.variant result ≡ 0 }
+    ensures sec { (p : Program) → Tells p graph.now.parts → (p.place from).sec ≡ sec → (p.place result).sec ≡ sec }
+    ensures clear { (p : Program) → Tells p graph.now.parts → is_lower waiting (p.place from) ≡ false → is_lower waiting (p.place result) ≡ false }
 {
-    for n in from..graph.points() {
+    let mut low = from;
+    let mut step = 1u32;
+    while is_clear(graph, waiting, sec, low, step) {
+        low += step;
+        step = step.saturating_mul(2);
+    }
+    while step > 1 {
+        step /= 2;
+        if is_clear(graph, waiting, sec, low, step) {
+            low += step;
+        }
+    }
+    low
+}
+
+/// The first point from one on and before another that keeps another state than a kept point, as far as that is quickly seen. Where
+/// there is none, the other.
+#[inline(always)]
+fn next_unlike(kept: &Kept, held: u32, from: u32, to: u32) -> u32
+    requires held { held < length kept.now }
+    requires order { from ≤ to }
+    requires to { to ≤ length kept.now }
+    ensures from { from ≤ result }
+    ensures to { result ≤ to }
+    ensures state { (k : ℕ) → from ≤ k → k < result → at kept.now held ≡ at kept.now k }
+{
+    for n in from..to {
         if !kept.are_alike(held, n) {
             return n;
         }
-        if !stands_before(graph, n, sec, last) {
-            return n;
-        }
     }
-    graph.points()
+    to
 }
 
-/// The first point from one on that keeps a state, or that stands in another section or behind an offset. Where there is none, how
-/// many points there are.
+/// The first point from one on and before another that keeps a state. Where there is none, the other.
 #[inline(never)]
-fn next_kept(graph: &Graph, kept: &Kept, sec: u32, last: u64, from: u32) -> u32
-    requires points { length kept.now ≡ length graph.now.parts.points.items }
-    requires from { from ≤ length kept.now }
+fn next_kept(kept: &Kept, from: u32, to: u32) -> u32
+    requires order { from ≤ to }
+    requires to { to ≤ length kept.now }
     ensures from { from ≤ result }
-    ensures within { result ≤ length kept.now }
+    ensures to { result ≤ to }
     ensures state { (k : ℕ) → from ≤ k → k < result → at kept.now k ≡ None }
-    ensures place { (p : Program) → Tells p graph.now.parts → (k : ℕ) → from ≤ k → k < result → ((p.place k).sec ≡ sec) × ((p.place k).off ≤ last) }
 {
-    for n in from..graph.points() {
+    for n in from..to {
         if kept.is_kept(n) {
             return n;
         }
-        if !stands_before(graph, n, sec, last) {
-            return n;
-        }
     }
-    graph.points()
+    to
 }
 
-/// The first point from one on at which the rows may change, where they are known to end with a point's row in its section: they stay
-/// as they are at those that are passed over. Where there is none, how many points there are.
+/// The first point from one on and before another that may have another state than a held one, if one is. Where there is none, the
+/// other.
 #[inline(never)]
-fn next_change(graph: &Graph, kept: &Kept, held: Option<u32>, waiting: Place, from: u32) -> u32
-    requires points { length kept.now ≡ length graph.now.parts.points.items }
+fn next_change(kept: &Kept, held: Option<u32>, from: u32, to: u32) -> u32
     requires held { IfSome held (λ h. h < length kept.now) }
     requires from { from ≤ length kept.now }
+    requires to { to ≤ length kept.now }
     ensures from { from ≤ result }
     ensures within { result ≤ length kept.now }
-    ensures row { (p : Program) → Tells p graph.now.parts → (rows : List PlacedRow) → IfSome held (λ h. is_row_held rows (p.place h).sec (row_of_point (at kept.now) h) ≡ true) → (k : ℕ) → from ≤ k → k < result → is_row_held rows (p.place k).sec (row_of_point (at kept.now) k) ≡ true }
-    ensures clear { (p : Program) → Tells p graph.now.parts → (k : ℕ) → from ≤ k → k < result → is_lower waiting (p.place k) ≡ false }
+    ensures to { (k : ℕ) → from ≤ k → k < result → k < to }
+    ensures state { (k : ℕ) → from ≤ k → k < result → IsSomeAnd held (λ h. at kept.now h ≡ at kept.now k) }
 {
     let Some(before) = held else {
         return from;
     };
-    let sec = graph.place(before).sec;
-    let Some(last) = last_before(waiting, sec) else {
+    if from >= to {
         return from;
-    };
+    }
     if kept.is_short(before) {
-        next_unlike(graph, kept, before, sec, last, from)
+        next_unlike(kept, before, from, to)
     } else if kept.is_kept(before) {
         from
     } else {
-        next_kept(graph, kept, sec, last, from)
+        next_kept(kept, from, to)
     }
+}
+
+/// Adds the rows of kept points of sites that run before a point that begins a row, and says where those end. Where the point is one
+/// before which none is known to wait, there are none; else it is told up to which it is the same.
+#[inline(always)]
+fn push_up_to(
+    graph: &Graph,
+    kept: &Kept,
+    rows: &mut Vec<PlacedRow>,
+    more: &[u32],
+    from: usize,
+    waiting: &mut Place,
+    clear_to: &mut u32,
+    n: u32,
+    place: Place,
+) -> Result<usize, NoMemory>
+    requires points { length kept.now ≡ length graph.now.parts.points.items }
+    requires fit { Fit (at kept.now) }
+    requires more { All (λ q. q < length graph.now.parts.points.items) more.now }
+    requires from { from ≤ length more.now }
+    requires waiting { (p : Program) → Tells p graph.now.parts → (d : ℕ) → from < length more.now → waiting.old ≡ p.address (slice_index_or more.now from d) }
+    requires point { n < length graph.now.parts.points.items }
+    requires place { (p : Program) → Tells p graph.now.parts → place ≡ p.place n }
+    requires plain { (p : Program) → Tells p graph.now.parts → p.variant n ≡ 0 }
+    requires reach { clear_to.old ≤ length graph.now.parts.points.items }
+    requires section { (p : Program) → Tells p graph.now.parts → PlainPointsAscend p → n < clear_to.old → (k : ℕ) → n ≤ k → k < clear_to.old → p.variant k ≡ 0 → (p.place k).sec ≡ (p.place n).sec }
+    requires clear { (p : Program) → Tells p graph.now.parts → PlainPointsAscend p → from < length more.now → (k : ℕ) → n ≤ k → k < clear_to.old → p.variant k ≡ 0 → is_lower waiting.old (p.place k) ≡ false }
+    ensures behind { IfOk result (λ end. from ≤ end) }
+    ensures within { IfOk result (λ end. end ≤ length more.now) }
+    ensures before { IfOk result (λ end. (p : Program) → Tells p graph.now.parts → (k d : ℕ) → from ≤ k → k < end → is_lower (p.address (slice_index_or more.now k d)) place ≡ true) }
+    ensures pushed { IfOk result (λ end. (p : Program) → Tells p graph.now.parts → rows.new.items ≡ add_all rows.old.items (rows_in_sites p (at kept.now) (slice_range more.now from end))) }
+    ensures waiting { IfOk result (λ end. (p : Program) → Tells p graph.now.parts → (d : ℕ) → end < length more.now → waiting.new ≡ p.address (slice_index_or more.now end d)) }
+    ensures reach { OnOk result (clear_to.new ≤ length graph.now.parts.points.items) }
+    ensures beyond { OnOk result (n < clear_to.new) }
+    ensures section { OnOk result ((p : Program) → Tells p graph.now.parts → PlainPointsAscend p → (k : ℕ) → n ≤ k → k < clear_to.new → p.variant k ≡ 0 → (p.place k).sec ≡ (p.place n).sec) }
+    ensures clear { IfOk result (λ end. (p : Program) → Tells p graph.now.parts → PlainPointsAscend p → end < length more.now → (k : ℕ) → n ≤ k → k < clear_to.new → p.variant k ≡ 0 → is_lower waiting.new (p.place k) ≡ false) }
+{
+    if n < *clear_to {
+        return Ok(from);
+    }
+    let end = push_waiting(graph, kept, rows, more, from, waiting, place)?;
+    *clear_to = last_clear(graph, *waiting, place.sec, n) + 1;
+    Ok(end)
 }
 
 /// Of so many points one has another row than the one before, as most objects go.
@@ -308,14 +361,25 @@ pub(crate) fn list_changes(
     let mut near = 0usize;
     let mut held: Option<u32> = None;
     let mut from = 0u32;
+    let mut clear_to = 0u32;
     'points: loop {
-        let n = next_change(graph, kept, held, waiting, from);
+        let n = next_change(kept, held, from, clear_to);
         if n >= graph.points() {
             push_all(graph, kept, &mut rows, &in_sites[next..])?;
             return Ok(rows);
         }
         if let Some(place) = plain_place(graph, kept, sites, &mut near, n) {
-            next = push_waiting(graph, kept, &mut rows, in_sites, next, &mut waiting, place)?;
+            next = push_up_to(
+                graph,
+                kept,
+                &mut rows,
+                in_sites,
+                next,
+                &mut waiting,
+                &mut clear_to,
+                n,
+                place,
+            )?;
             put_row(kept, &mut rows, n, place)?;
             held = Some(n);
         }

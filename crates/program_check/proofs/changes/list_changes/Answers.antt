@@ -1,5 +1,5 @@
 -- Point after point, with the rows in sites before it.
-use Rattle.std.proofs.Common.{◌≡◌, ◌<◌, ◌≤◌, ℕ, All, length, true, false, pos, List, [], get_or, drop, refl, sym, ap, subst, ◌∙◌, arith}
+use Rattle.std.proofs.Common.{◌≡◌, ◌+◌, ◌<◌, ◌≤◌, ℕ, All, length, true, false, pos, List, [], get_or, drop, refl, sym, ap, subst, ◌∙◌, arith}
 use Rattle.std.specs.Prelude.{slice_range}
 use Rattle.std.proofs.lemmas.List.{drop-map, length-map, take_rest}
 use Rattle.std.proofs.lemmas.List.Elements.{All-drop}
@@ -12,6 +12,7 @@ use Rattle.kept_states.specs.LevelStates.{at}
 use Rattle.stack_rules.specs.Sites.{IsIndexOf}
 use Rattle.program_check.specs.Checked.{IsCheckedBy}
 use Rattle.program_check.specs.Changes.{AreRowsInSites, add_all, after_row, is_held, row_in_site, rows_in_sites}
+use Rattle.program_check.proofs.Clear.{held_there, section_behind, section_from}
 use Rattle.program_check.proofs.Held.{held_after}
 use Rattle.program_check.proofs.Merging.{no_row, step, whole}
 use Rattle.program_check.proofs.Plain.{begins_or_not}
@@ -38,12 +39,12 @@ points-preserved c =
     same_rows p states in_sites checked.ascending checked.laid checked.kept
     (kept_is_point p c.args.kept.now checked.kept (checked.tells.count ∙ sym c.requires.points)) rows.ascend rows c.points.from n next none h.0 c.points.rows.items h.1
     (omega (arith, long, c.points.invariant.within)) c.next_change-n.ensures.from (omega (arith, inside_n, checked.tells.count))
-    (λ k low high l. let inside : next < length points = omega (arith, l, long) in
+    (λ k low high plain l. let inside : next < length points = omega (arith, l, long) in
     ap (λ (x : PlacedRow). is_before x.place (p.place k)) (row_there p states points next none inside)
     ∙ ap (λ (z : Place). is_before z (p.place k)) (sym (c.points.invariant.waiting p checked.tells 0 inside))
-    ∙ c.next_change-n.ensures.clear p checked.tells k low high)
+    ∙ c.points.invariant.clear p checked.tells checked.ascending inside k low (c.next_change-n.ensures.to k low high) plain)
     (λ k. begins_or_not p states k (p.place k) refl c.args.sites.now index checked.laid)
-    (λ k low high. c.next_change-n.ensures.row p checked.tells c.points.rows.items (c.points.invariant.held p checked.tells) k low high)
+    (λ k low high plain. held_there p states c.points.held c.points.rows.items c.points.from c.points.clear_to k (c.next_change-n.ensures.state k low high) (c.points.invariant.held p checked.tells) (c.points.invariant.section p checked.tells checked.ascending) low (c.next_change-n.ensures.to k low high) plain)
     h.2 in
     elim c.match-plain_place.branch [
       | in-Some+in_ok-next+in_ok-put_row w ↦
@@ -51,13 +52,17 @@ points-preserved c =
           let next_is = w.next-is in
           let held_is = w.held-is in
           let waiting_is = w.waiting-is in
+          let clear_to_is = w.clear_to-is in
           let end : ℕ = w.in_ok-next.next in
-          rw (rows_is, next_is, held_is, waiting_is) (record {
+          rw (rows_is, next_is, held_is, waiting_is, clear_to_is) (record {
             inside = omega (arith, inside_n, c.requires.points);
-            held = λ p t. subst (λ (z : Place). is_held w.put_row.new.rows.items z.sec (row_of_point states n) ≡ true) (w.in-Some.ensures.place p t) (subst (λ (xs : List PlacedRow). is_held xs w.in-Some.place.sec (row_of_point states n) ≡ true) (sym w.in_ok-put_row.ensures) (held_after w.push_waiting.new.rows.items (placed w.in-Some.place (row_of_point states n))));
+            held = λ p t. subst (λ (z : Place). is_held w.put_row.new.rows.items z.sec (row_of_point states n) ≡ true) (w.in-Some.ensures.place p t) (subst (λ (xs : List PlacedRow). is_held xs w.in-Some.place.sec (row_of_point states n) ≡ true) (sym w.in_ok-put_row.ensures) (held_after w.push_up_to.new.rows.items (placed w.in-Some.place (row_of_point states n))));
             to = omega (arith, inside_n, c.requires.points);
             waiting = w.in_ok-next.ensures.waiting;
             within = w.in_ok-next.ensures.within;
+            reach = omega (arith, w.in_ok-next.ensures.reach, c.requires.points);
+            section = λ p t up k low high plain. w.in_ok-next.ensures.section p t up k (omega (arith, low)) high plain;
+            clear = λ p t up waits k low high plain. w.in_ok-next.ensures.clear p t up waits k (omega (arith, low)) high plain;
             merged = λ p checked index rows.
                 let in_sites : List PlacedRow = rows_in_sites p states points in
                 let long : length in_sites ≡ length points = length-map points (row_in_site p states) in
@@ -70,7 +75,10 @@ points-preserved c =
                 (kept_is_point p c.args.kept.now checked.kept (checked.tells.count ∙ sym c.requires.points)) rows.ascend rows n next end none h.0 h.1
                 w.in_ok-next.ensures.behind (omega (arith, long, within))
                 (λ k l m. ap (λ (x : PlacedRow). is_before x.place (p.place n)) (row_there p states points k none (omega (arith, m, within))) ∙ subst (λ (z : Place). is_before (p.address (get_or points k 0)) z ≡ true) place (w.in_ok-next.ensures.before p checked.tells k 0 l m))
-                (λ l. let inside : end < length points = omega (arith, l, long) in ap (λ (x : PlacedRow). is_before x.place (p.place n)) (row_there p states points end none inside) ∙ subst (λ (z : Place). is_before (p.address (get_or points end 0)) z ≡ false) place (w.in_ok-next.ensures.other p checked.tells 0 inside))
+                (λ l. let inside : end < length points = omega (arith, l, long) in
+                ap (λ (x : PlacedRow). is_before x.place (p.place n)) (row_there p states points end none inside)
+                ∙ (ap (λ (z : Place). is_before z (p.place n)) (sym (w.in_ok-next.ensures.waiting p checked.tells 0 inside))
+                ∙ w.in_ok-next.ensures.clear p checked.tells checked.ascending inside n (omega arith) w.in_ok-next.ensures.beyond (row.0).plain))
                 (omega (arith, inside_n, checked.tells.count)) row.0 in (
                   r.0,
                   r.1,
@@ -87,12 +95,16 @@ points-preserved c =
           let next_is = w.next-is in
           let held_is = w.held-is in
           let waiting_is = w.waiting-is in
-          rw (rows_is, next_is, held_is, waiting_is) (record {
+          let clear_to_is = w.clear_to-is in
+          rw (rows_is, next_is, held_is, waiting_is, clear_to_is) (record {
             inside = c.points.invariant.inside;
             held = c.points.invariant.held;
             to = omega (arith, inside_n, c.requires.points);
             waiting = c.points.invariant.waiting;
             within = c.points.invariant.within;
+            reach = c.points.invariant.reach;
+            section = λ p t up. section_behind p c.points.held c.points.from c.points.clear_to (n + 1) (c.points.invariant.section p t up) (omega (arith, c.next_change-n.ensures.from));
+            clear = λ p t up waits k low high plain. c.points.invariant.clear p t up waits k (omega (arith, low, c.next_change-n.ensures.from)) high plain;
             merged = λ p checked index rows.
                 let h = so_far p checked index rows in
                 (h.0, no_row p states (rows_in_sites p states points) n next h.0 h.1 (w.in_default.ensures.begins p checked.tells index checked.laid), h.2);
@@ -116,12 +128,12 @@ returns-then-n-points c p checked index rows =
     let h = same_rows p states in_sites checked.ascending checked.laid checked.kept
     (kept_is_point p c.args.kept.now checked.kept (checked.tells.count ∙ sym c.requires.points)) rows.ascend rows c.points.from p.count c.points.next none so_far.0 c.points.rows.items so_far.1
     (omega (arith, long, within)) (omega (arith, c.points.invariant.to, c.requires.points, checked.tells.count)) (omega arith)
-    (λ k low high l. let inside : c.points.next < length points = omega (arith, l, long) in
+    (λ k low high plain l. let inside : c.points.next < length points = omega (arith, l, long) in
     ap (λ (x : PlacedRow). is_before x.place (p.place k)) (row_there p states points c.points.next none inside)
     ∙ ap (λ (z : Place). is_before z (p.place k)) (sym (c.points.invariant.waiting p checked.tells 0 inside))
-    ∙ c.next_change-n.ensures.clear p checked.tells k low (omega (arith, high, all)))
+    ∙ c.points.invariant.clear p checked.tells checked.ascending inside k low (c.next_change-n.ensures.to k low (omega (arith, high, all))) plain)
     (λ k. begins_or_not p states k (p.place k) refl c.args.sites.now index checked.laid)
-    (λ k low high. c.next_change-n.ensures.row p checked.tells c.points.rows.items (c.points.invariant.held p checked.tells) k low (omega (arith, high, all)))
+    (λ k low high plain. held_there p states c.points.held c.points.rows.items c.points.from c.points.clear_to k (c.next_change-n.ensures.state k low (omega (arith, high, all))) (c.points.invariant.held p checked.tells) (c.points.invariant.section p checked.tells checked.ascending) low (c.next_change-n.ensures.to k low (omega (arith, high, all))) plain)
     so_far.2 in
     let r = whole p states in_sites p.count c.points.next none h.0 rows.ascend refl (omega (arith, within, long)) h.1 in (
       r.0,
@@ -132,3 +144,10 @@ returns-then-n-points c p checked index rows =
           ∙ ap (λ (xs : List PlacedRow). add_all xs (drop c.points.next in_sites)) h.2
           ∙ sym r.2,
     )
+
+pub push_up_to-requires-clause-section : goal.push_up_to-requires-clause-section
+push_up_to-requires-clause-section c p t up inside k low high plain =
+    section_from p c.points.held c.points.from c.points.clear_to c.next_change-n.result (c.points.invariant.section p t up) c.next_change-n.ensures.from inside (c.plain_place.ensures.plain (let some : _ = search in some) p t) k low high plain
+
+pub push_up_to-requires-clause-clear : goal.push_up_to-requires-clause-clear
+push_up_to-requires-clause-clear c p t up waits k low high plain = c.points.invariant.clear p t up waits k (omega (arith, low, c.next_change-n.ensures.from)) high plain
