@@ -285,7 +285,8 @@ fn next_change(kept: &Kept, held: Option<u32>, from: u32, to: u32) -> u32
     if from >= to {
         return from;
     }
-    if kept.is_short(before) {
+    // It is seen to be like itself if it can be seen to be like others.
+    if kept.are_alike(before, before) {
         next_unlike(kept, before, from, to)
     } else if kept.is_kept(before) {
         from
