@@ -113,7 +113,7 @@ fn address_at(graph: &Graph, points: &[u32], i: usize) -> Place
     }
 }
 
-/// The same, where it is known where the first of those that wait runs.
+/// Adds the rows of kept points of sites that run before a place, where it is known where the first of those that wait runs.
 #[inline(always)]
 fn push_waiting(
     graph: &Graph,
@@ -189,8 +189,8 @@ fn plain_place(
     Some(place)
 }
 
-/// Whether a point, by how far behind another one it is, is an instruction of the object's code in a section, and none that a place
-/// lies before.
+/// Whether the point so many behind another one is an instruction of the object's code in a section, and doesn't stand behind a place
+/// where a row waits.
 fn is_clear(graph: &Graph, waiting: Place, sec: u32, from: u32, step: u32) -> bool
     requires { from < length graph.now.parts.points.items }
     ensures within { IsTrue result → from + step < length graph.now.parts.points.items }
@@ -205,8 +205,8 @@ fn is_clear(graph: &Graph, waiting: Place, sec: u32, from: u32, step: u32) -> bo
     graph.variant(from + step) == 0 && place.sec == sec && !is_before(waiting, place)
 }
 
-/// The last point in a row, from one on, that is an instruction of the object's code in a section, and none that a place lies before.
-/// Where the first isn't, any point.
+/// A point from one on, as far as steps lead that are doubled and then halved. Where that one is an instruction of the object's code
+/// in a section, and doesn't stand behind a place where a row waits, this holds for the result too.
 #[inline(never)]
 fn last_clear(graph: &Graph, waiting: Place, sec: u32, from: u32) -> u32
     requires { from < length graph.now.parts.points.items }
@@ -295,8 +295,8 @@ fn next_change(kept: &Kept, held: Option<u32>, from: u32, to: u32) -> u32
     }
 }
 
-/// Adds the rows of kept points of sites that run before a point that begins a row, and says where those end. Where the point is one
-/// before which none is known to wait, there are none; else it is told up to which it is the same.
+/// Adds the rows of kept points of sites that run before a point that begins a row, and says where those end. Below the number
+/// `clear_to` there are none; from it on they are looked for, and it moves on to where there may be some again, or another section.
 #[inline(always)]
 fn push_up_to(
     graph: &Graph,
