@@ -20,3 +20,4 @@ pub mod AllWarnings
 pub mod Tracked
 pub mod OptionSums
 pub mod Staying
+pub mod Clear

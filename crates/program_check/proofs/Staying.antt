@@ -15,17 +15,17 @@ use Rattle.program_check.proofs.Merging.{IsSoFar, no_row, step}
 module _ (p : Program) (states : ℕ → Option State) (in_sites : List PlacedRow) where
   -- a point whose row the rows end with, where no row in a site waits before it
   same_row : PlainPointsAscend p → IsLaidOut p → AreKeptStates p states → ((q : ℕ) (s : State) → Kept p q s → IsPoint p q) → Ascends in_sites → AreRowsInSites p states in_sites
-      → (n next : ℕ) (d : PlacedRow) (all rows : List PlacedRow) → IsSoFar p states in_sites n next all → next ≤ length in_sites → (next < length in_sites → is_before (get_or in_sites next d).place (p.place n) ≡ false)
-      → IsPoint p n → BeginsRow p states n ⊎ (BeginsRow p states n → ⊥) → rows ≡ add_all [] all → is_held rows (p.place n).sec (row_of_point states n) ≡ true
+      → (n next : ℕ) (d : PlacedRow) (all rows : List PlacedRow) → IsSoFar p states in_sites n next all → next ≤ length in_sites → (p.variant n ≡ 0 → next < length in_sites → is_before (get_or in_sites next d).place (p.place n) ≡ false)
+      → IsPoint p n → BeginsRow p states n ⊎ (BeginsRow p states n → ⊥) → rows ≡ add_all [] all → (p.variant n ≡ 0 → is_held rows (p.place n).sec (row_of_point states n) ≡ true)
       → (more : List PlacedRow) × IsSoFar p states in_sites (n + 1) next more × (rows ≡ add_all [] more)
   same_row ascending laid kept kept_point up in_order n next d all rows h low clear point (inr none) is held = (all, no_row p states in_sites n next all h none, is)
   same_row ascending laid kept kept_point up in_order n next d all rows h low clear point (inl begins) is held =
       let x : PlacedRow = row_from p states n in
-      let r = step p states in_sites ascending laid kept kept_point up in_order n next next d all h (omega arith) low (λ k l m. absurd (omega (arith, l, m))) clear point begins in
+      let r = step p states in_sites ascending laid kept kept_point up in_order n next next d all h (omega arith) low (λ k l m. absurd (omega (arith, l, m))) (clear begins.plain) point begins in
       let none : 0 ≡ next - next = omega arith in (
         r.0,
         r.1,
-        sym (held_stays rows x held)
+        sym (held_stays rows x (held begins.plain))
             ∙ ap (λ (xs : List PlacedRow). after_row xs x) is
             ∙ ap (λ (k : ℕ). after_row (add_all (add_all [] all) (take k (drop next in_sites))) x) none
             ∙ sym r.2,
@@ -34,9 +34,9 @@ module _ (p : Program) (states : ℕ → Option State) (in_sites : List PlacedRo
   -- several such points
   same_count : PlainPointsAscend p → IsLaidOut p → AreKeptStates p states → ((q : ℕ) (s : State) → Kept p q s → IsPoint p q) → Ascends in_sites → AreRowsInSites p states in_sites
       → (count from next : ℕ) (d : PlacedRow) (all rows : List PlacedRow) → IsSoFar p states in_sites from next all → next ≤ length in_sites → from + count ≤ p.count
-      → ((k : ℕ) → from ≤ k → k < from + count → next < length in_sites → is_before (get_or in_sites next d).place (p.place k) ≡ false)
+      → ((k : ℕ) → from ≤ k → k < from + count → p.variant k ≡ 0 → next < length in_sites → is_before (get_or in_sites next d).place (p.place k) ≡ false)
       → ((k : ℕ) → BeginsRow p states k ⊎ (BeginsRow p states k → ⊥))
-      → ((k : ℕ) → from ≤ k → k < from + count → is_held rows (p.place k).sec (row_of_point states k) ≡ true)
+      → ((k : ℕ) → from ≤ k → k < from + count → p.variant k ≡ 0 → is_held rows (p.place k).sec (row_of_point states k) ≡ true)
       → rows ≡ add_all [] all → (more : List PlacedRow) × IsSoFar p states in_sites (from + count) next more × (rows ≡ add_all [] more)
   same_count ascending laid kept kept_point up in_order zero from next d all rows h low within clear begins held is = (all, subst (λ (m : ℕ). IsSoFar p states in_sites m next all) (let e : from ≡ from + 0 = omega arith in e) h, is)
   same_count ascending laid kept kept_point up in_order (suc count) from next d all rows h low within clear begins held is =
@@ -48,9 +48,9 @@ module _ (p : Program) (states : ℕ → Option State) (in_sites : List PlacedRo
   -- the points from one up to another
   pub same_rows : PlainPointsAscend p → IsLaidOut p → AreKeptStates p states → ((q : ℕ) (s : State) → Kept p q s → IsPoint p q) → Ascends in_sites → AreRowsInSites p states in_sites
       → (from to next : ℕ) (d : PlacedRow) (all rows : List PlacedRow) → IsSoFar p states in_sites from next all → next ≤ length in_sites → from ≤ to → to ≤ p.count
-      → ((k : ℕ) → from ≤ k → k < to → next < length in_sites → is_before (get_or in_sites next d).place (p.place k) ≡ false)
+      → ((k : ℕ) → from ≤ k → k < to → p.variant k ≡ 0 → next < length in_sites → is_before (get_or in_sites next d).place (p.place k) ≡ false)
       → ((k : ℕ) → BeginsRow p states k ⊎ (BeginsRow p states k → ⊥))
-      → ((k : ℕ) → from ≤ k → k < to → is_held rows (p.place k).sec (row_of_point states k) ≡ true)
+      → ((k : ℕ) → from ≤ k → k < to → p.variant k ≡ 0 → is_held rows (p.place k).sec (row_of_point states k) ≡ true)
       → rows ≡ add_all [] all → (more : List PlacedRow) × IsSoFar p states in_sites to next more × (rows ≡ add_all [] more)
   same_rows ascending laid kept kept_point up in_order from to next d all rows h low order within clear begins held is =
       let there : from + (to - from) ≡ to = omega (arith, order) in

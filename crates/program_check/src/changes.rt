@@ -1,12 +1,13 @@
 //! The rows that differ from the one before.
 
-ghost use Rattle.std.specs.Prelude.{◌≡◌, ◌≤◌, ◌<◌, [], All, IfOk, IfSome, IsTrue, List, MatchOption, OnOk, Some, length, slice_index_or, slice_range, true, false, ℕ};
+ghost use Rattle.std.specs.Prelude.{◌≡◌, ◌+◌, ◌≤◌, ◌<◌, [], All, IfOk, IfSome, IsSome, IsSomeAnd, IsTrue, List, MatchOption, None, OnOk, Some, length, slice_index_or, slice_range, true, false, ℕ};
 ghost use Rattle.ot_base.specs.declared.place.Place.{Place};
 ghost use Rattle.ot_base.specs.declared.row.PlacedRow.{PlacedRow};
 ghost use Rattle.ot_base.specs.Places.{is_before as is_lower};
 ghost use Rattle.machine_defs.specs.Program.{Program};
 ghost use Rattle.machine_defs.specs.IsProgram.{IsLaidOut};
 ghost use Rattle.machine_defs.specs.Rows.{placed, row_of_point};
+ghost use Rattle.table_defs.specs.Order.{PlainPointsAscend};
 ghost use Rattle.program_graph.specs.Tells.{Tells};
 ghost use Rattle.kept_states.specs.LevelStates.{at};
 ghost use Rattle.stack_rules.specs.Sites.{IsIndexOf};
@@ -14,107 +15,52 @@ ghost use Rattle.program_check.specs.Changes.{AreMerged, AreRowsInSites, BeginsR
 ghost use Rattle.program_check.specs.Checked.{IsCheckedBy};
 ghost use Rattle.program_check.specs.Fit.{Fit};
 
-use crate::row::{ZERO_ROW, row_or_zero};
+use crate::row::{ZERO_ROW, row_at};
 use kept_states::Kept;
-use ot_base::{NoMemory, Place, PlacedRow, is_before};
+use ot_base::{NoMemory, Place, PlacedRow, Row, is_before};
 use program_graph::Graph;
 use stack_rules::SiteIndex;
 use std::alloc::Global;
 
 /// Adds a row behind others, unless it is equal to the one before. Before the first of a section nothing is known.
-#[inline(never)]
-fn push_change(rows: &mut Vec<PlacedRow>, row: PlacedRow) -> Result<(), NoMemory>
-    ensures { OnOk result (rows.new.items ≡ after_row rows.old.items row) }
+#[inline(always)]
+fn push_change(rows: &mut Vec<PlacedRow>, place: Place, row: Row) -> Result<(), NoMemory>
+    ensures { OnOk result (rows.new.items ≡ after_row rows.old.items (placed place row)) }
 {
     let before = match rows.last() {
-        Some(last) if last.place.sec == row.place.sec => last.row,
+        Some(last) if last.place.sec == place.sec => last.row,
         Some(_) | None => ZERO_ROW,
     };
-    if before != row.row {
-        rows.push(row)?;
+    if before != row {
+        rows.push(PlacedRow { place, row })?;
     }
     Ok(())
-}
-
-/// A point whose row the rows so far are known to end with, and the section in which they do.
-#[derive(Clone, Copy)]
-struct Held {
-    point: u32,
-    sec: u32,
-}
-
-/// A quick test whether two points keep the same state, or neither keeps one.
-#[inline(always)]
-fn keep_the_same(kept: &Kept, one: u32, other: u32) -> bool
-    requires one { one < length kept.now }
-    requires other { other < length kept.now }
-    ensures { IsTrue result → at kept.now one ≡ at kept.now other }
-{
-    if kept.is_short(one) {
-        kept.are_alike(one, other)
-    } else {
-        !kept.is_kept(one) && !kept.is_kept(other)
-    }
-}
-
-/// A quick test whether the rows end with a point's row in the section of a place: where it says so they do.
-#[inline(always)]
-fn ends_with(kept: &Kept, held: Option<Held>, point: u32, place: Place) -> bool
-    requires point { point < length kept.now }
-    requires inside { IfSome held (λ h. h.point < length kept.now) }
-    ensures { IsTrue result → (rows : List PlacedRow) → IfSome held (λ h. is_row_held rows h.sec (row_of_point (at kept.now) h.point) ≡ true) → is_row_held rows place.sec (row_of_point (at kept.now) point) ≡ true }
-{
-    match held {
-        Some(before) => keep_the_same(kept, before.point, point) && before.sec == place.sec,
-        None => false,
-    }
 }
 
 /// Adds the row of a point that begins at a place, unless it is equal to the one before in its section.
-fn put_row(
-    kept: &Kept,
-    rows: &mut Vec<PlacedRow>,
-    held: &mut Option<Held>,
-    point: u32,
-    place: Place,
-) -> Result<(), NoMemory>
+#[inline(always)]
+fn put_row(kept: &Kept, rows: &mut Vec<PlacedRow>, point: u32, place: Place) -> Result<(), NoMemory>
     requires point { point < length kept.now }
     requires fit { Fit (at kept.now) }
-    ensures pushed { OnOk result (rows.new.items ≡ after_row rows.old.items (placed place (row_of_point (at kept.now) point))) }
-    ensures inside { OnOk result (IfSome held.new (λ h. h.point < length kept.now)) }
-    ensures held { OnOk result (IfSome held.new (λ h. is_row_held rows.new.items h.sec (row_of_point (at kept.now) h.point) ≡ true)) }
+    ensures { OnOk result (rows.new.items ≡ after_row rows.old.items (placed place (row_of_point (at kept.now) point))) }
 {
-    let row = row_or_zero(kept.state(point));
-    push_change(rows, PlacedRow { place, row })?;
-    *held = Some(Held {
-        point,
-        sec: place.sec,
-    });
-    Ok(())
+    let row = row_at(kept, point);
+    push_change(rows, place, row)
 }
 
-/// Adds the row of a point that begins at a place, unless it is equal to the one before in its section. Where the point keeps the
-/// same state as the one whose row is held, there in that section, its row isn't even made.
-#[inline(always)]
-fn push_row(
+/// The same, for the few points that run in sites.
+#[inline(never)]
+fn put_row_in_site(
     kept: &Kept,
     rows: &mut Vec<PlacedRow>,
-    held: &mut Option<Held>,
     point: u32,
     place: Place,
 ) -> Result<(), NoMemory>
     requires point { point < length kept.now }
     requires fit { Fit (at kept.now) }
-    requires inside { IfSome held.old (λ h. h.point < length kept.now) }
-    requires held { IfSome held.old (λ h. is_row_held rows.old.items h.sec (row_of_point (at kept.now) h.point) ≡ true) }
-    ensures pushed { OnOk result (rows.new.items ≡ after_row rows.old.items (placed place (row_of_point (at kept.now) point))) }
-    ensures inside { OnOk result (IfSome held.new (λ h. h.point < length kept.now)) }
-    ensures held { OnOk result (IfSome held.new (λ h. is_row_held rows.new.items h.sec (row_of_point (at kept.now) h.point) ≡ true)) }
+    ensures { OnOk result (rows.new.items ≡ after_row rows.old.items (placed place (row_of_point (at kept.now) point))) }
 {
-    if ends_with(kept, *held, point, place) {
-        return Ok(());
-    }
-    put_row(kept, rows, held, point, place)
+    put_row(kept, rows, point, place)
 }
 
 /// Adds the rows of kept points of sites that run before a place, from one on, and says where those end.
@@ -123,7 +69,6 @@ fn push_before(
     graph: &Graph,
     kept: &Kept,
     rows: &mut Vec<PlacedRow>,
-    held: &mut Option<Held>,
     more: &[u32],
     from: usize,
     place: Place,
@@ -132,15 +77,11 @@ fn push_before(
     requires fit { Fit (at kept.now) }
     requires more { All (λ q. q < length graph.now.parts.points.items) more.now }
     requires from { from ≤ length more.now }
-    requires inside { IfSome held.old (λ h. h.point < length kept.now) }
-    requires held { IfSome held.old (λ h. is_row_held rows.old.items h.sec (row_of_point (at kept.now) h.point) ≡ true) }
     ensures behind { IfOk result (λ end. from ≤ end) }
     ensures within { IfOk result (λ end. end ≤ length more.now) }
     ensures before { IfOk result (λ end. (p : Program) → Tells p graph.now.parts → (k d : ℕ) → from ≤ k → k < end → is_lower (p.address (slice_index_or more.now k d)) place ≡ true) }
     ensures other { IfOk result (λ end. (p : Program) → Tells p graph.now.parts → (d : ℕ) → end < length more.now → is_lower (p.address (slice_index_or more.now end d)) place ≡ false) }
     ensures pushed { IfOk result (λ end. (p : Program) → Tells p graph.now.parts → rows.new.items ≡ add_all rows.old.items (rows_in_sites p (at kept.now) (slice_range more.now from end))) }
-    ensures inside { OnOk result (IfSome held.new (λ h. h.point < length kept.now)) }
-    ensures held { OnOk result (IfSome held.new (λ h. is_row_held rows.new.items h.sec (row_of_point (at kept.now) h.point) ≡ true)) }
 {
     for end in from..more.len() {
         let n = more[end];
@@ -148,66 +89,57 @@ fn push_before(
         if !is_before(address, place) {
             return Ok(end);
         }
-        push_row(kept, rows, held, n, address)?;
+        put_row_in_site(kept, rows, n, address)?;
     }
     Ok(more.len())
 }
 
-/// Where the point runs that stands at a place in a list, if one does.
-fn address_at(graph: &Graph, points: &[u32], i: usize) -> Option<Place>
+/// A place behind all others.
+const BEHIND_ALL: Place = Place {
+    sec: u32::MAX,
+    off: u64::MAX,
+};
+
+/// Where the point runs that stands at a place in a list; where none does, behind all places.
+#[inline(never)]
+fn address_at(graph: &Graph, points: &[u32], i: usize) -> Place
     requires { All (λ q. q < length graph.now.parts.points.items) points.now }
-    ensures { (p : Program) → Tells p graph.now.parts → (d : ℕ) → i < length points.now → result ≡ Some (p.address (slice_index_or points.now i d)) }
+    ensures { (p : Program) → Tells p graph.now.parts → (d : ℕ) → i < length points.now → result ≡ p.address (slice_index_or points.now i d) }
 {
     if i < points.len() {
-        Some(graph.address(points[i]))
+        graph.address(points[i])
     } else {
-        None
+        BEHIND_ALL
     }
 }
 
-/// Whether the first of the rows that wait, which begins at a place, lies before another place.
-#[inline(always)]
-fn waits_before(waiting: Option<Place>, place: Place) -> bool
-    ensures { (first : Place) → waiting ≡ Some first → result ≡ is_lower first place }
-{
-    match waiting {
-        Some(first) => is_before(first, place),
-        None => false,
-    }
-}
-
-/// The same, where it is known where the first of those that wait runs.
+/// Adds the rows of kept points of sites that run before a place, where it is known where the first of those that wait runs.
 #[inline(always)]
 fn push_waiting(
     graph: &Graph,
     kept: &Kept,
     rows: &mut Vec<PlacedRow>,
-    held: &mut Option<Held>,
     more: &[u32],
     from: usize,
-    waiting: &mut Option<Place>,
+    waiting: &mut Place,
     place: Place,
 ) -> Result<usize, NoMemory>
     requires points { length kept.now ≡ length graph.now.parts.points.items }
     requires fit { Fit (at kept.now) }
     requires more { All (λ q. q < length graph.now.parts.points.items) more.now }
     requires from { from ≤ length more.now }
-    requires waiting { (p : Program) → Tells p graph.now.parts → (d : ℕ) → from < length more.now → waiting.old ≡ Some (p.address (slice_index_or more.now from d)) }
-    requires inside { IfSome held.old (λ h. h.point < length kept.now) }
-    requires held { IfSome held.old (λ h. is_row_held rows.old.items h.sec (row_of_point (at kept.now) h.point) ≡ true) }
+    requires waiting { (p : Program) → Tells p graph.now.parts → (d : ℕ) → from < length more.now → waiting.old ≡ p.address (slice_index_or more.now from d) }
     ensures behind { IfOk result (λ end. from ≤ end) }
     ensures within { IfOk result (λ end. end ≤ length more.now) }
     ensures before { IfOk result (λ end. (p : Program) → Tells p graph.now.parts → (k d : ℕ) → from ≤ k → k < end → is_lower (p.address (slice_index_or more.now k d)) place ≡ true) }
     ensures other { IfOk result (λ end. (p : Program) → Tells p graph.now.parts → (d : ℕ) → end < length more.now → is_lower (p.address (slice_index_or more.now end d)) place ≡ false) }
     ensures pushed { IfOk result (λ end. (p : Program) → Tells p graph.now.parts → rows.new.items ≡ add_all rows.old.items (rows_in_sites p (at kept.now) (slice_range more.now from end))) }
-    ensures inside { OnOk result (IfSome held.new (λ h. h.point < length kept.now)) }
-    ensures held { OnOk result (IfSome held.new (λ h. is_row_held rows.new.items h.sec (row_of_point (at kept.now) h.point) ≡ true)) }
-    ensures waiting { IfOk result (λ end. (p : Program) → Tells p graph.now.parts → (d : ℕ) → end < length more.now → waiting.new ≡ Some (p.address (slice_index_or more.now end d))) }
+    ensures waiting { IfOk result (λ end. (p : Program) → Tells p graph.now.parts → (d : ℕ) → end < length more.now → waiting.new ≡ p.address (slice_index_or more.now end d)) }
 {
-    if !waits_before(*waiting, place) {
+    if !is_before(*waiting, place) {
         return Ok(from);
     }
-    let end = push_before(graph, kept, rows, held, more, from, place)?;
+    let end = push_before(graph, kept, rows, more, from, place)?;
     *waiting = address_at(graph, more, end);
     Ok(end)
 }
@@ -217,18 +149,15 @@ fn push_all(
     graph: &Graph,
     kept: &Kept,
     rows: &mut Vec<PlacedRow>,
-    held: &mut Option<Held>,
     more: &[u32],
 ) -> Result<(), NoMemory>
     requires points { length kept.now ≡ length graph.now.parts.points.items }
     requires fit { Fit (at kept.now) }
     requires more { All (λ q. q < length graph.now.parts.points.items) more.now }
-    requires inside { IfSome held.old (λ h. h.point < length kept.now) }
-    requires held { IfSome held.old (λ h. is_row_held rows.old.items h.sec (row_of_point (at kept.now) h.point) ≡ true) }
     ensures { OnOk result ((p : Program) → Tells p graph.now.parts → rows.new.items ≡ add_all rows.old.items (rows_in_sites p (at kept.now) more.now)) }
 {
     for n in more {
-        push_row(kept, rows, held, *n, graph.address(*n))?;
+        put_row_in_site(kept, rows, *n, graph.address(*n))?;
     }
     Ok(())
 }
@@ -244,7 +173,9 @@ fn plain_place(
 ) -> Option<Place>
     requires points { length kept.now ≡ length graph.now.parts.points.items }
     requires inside { n < length graph.now.parts.points.items }
-    ensures { (p : Program) → Tells p graph.now.parts → IsIndexOf p sites.now → IsLaidOut p → MatchOption result (BeginsRow p (at kept.now) n → ⊥) (λ place. BeginsRow p (at kept.now) n × (place ≡ p.place n)) }
+    ensures place { IfSome result (λ place. (p : Program) → Tells p graph.now.parts → place ≡ p.place n) }
+    ensures plain { IsSome result → (p : Program) → Tells p graph.now.parts → p.variant n ≡ 0 }
+    ensures begins { (p : Program) → Tells p graph.now.parts → IsIndexOf p sites.now → IsLaidOut p → MatchOption result (BeginsRow p (at kept.now) n → ⊥) (λ place. BeginsRow p (at kept.now) n × (place ≡ p.place n)) }
 {
     if graph.variant(n) != 0 {
         return None;
@@ -258,42 +189,157 @@ fn plain_place(
     Some(place)
 }
 
-/// A quick test whether the rows stay as they are at a point of the object's code, also if it begins a row: they end with its row in
-/// its section, and no row that waits lies before it.
-#[inline(always)]
-fn adds_none(graph: &Graph, kept: &Kept, held: Option<Held>, waiting: Option<Place>, n: u32) -> bool
-    requires points { length kept.now ≡ length graph.now.parts.points.items }
-    requires point { n < length graph.now.parts.points.items }
-    requires inside { IfSome held (λ h. h.point < length kept.now) }
-    ensures row { IsTrue result → (p : Program) → Tells p graph.now.parts → (rows : List PlacedRow) → IfSome held (λ h. is_row_held rows h.sec (row_of_point (at kept.now) h.point) ≡ true) → is_row_held rows (p.place n).sec (row_of_point (at kept.now) n) ≡ true }
-    ensures clear { IsTrue result → (p : Program) → Tells p graph.now.parts → (first : Place) → waiting ≡ Some first → is_lower first (p.place n) ≡ false }
+/// Whether the point so many behind another one is an instruction of the object's code in a section, and doesn't stand behind a place
+/// where a row waits.
+fn is_clear(graph: &Graph, waiting: Place, sec: u32, from: u32, step: u32) -> bool
+    requires { from < length graph.now.parts.points.items }
+    ensures within { IsTrue result → from + step < length graph.now.parts.points.items }
+    ensures plain { IsTrue result → (p : Program) → Tells p graph.now.parts → p.variant (from + step) ≡ 0 }
+    ensures sec { IsTrue result → (p : Program) → Tells p graph.now.parts → (p.place (from + step)).sec ≡ sec }
+    ensures clear { IsTrue result → (p : Program) → Tells p graph.now.parts → is_lower waiting (p.place (from + step)) ≡ false }
 {
-    let place = graph.place(n);
-    ends_with(kept, held, n, place) && !waits_before(waiting, place)
+    if step >= graph.points() - from {
+        return false;
+    }
+    let place = graph.place(from + step);
+    graph.variant(from + step) == 0 && place.sec == sec && !is_before(waiting, place)
 }
 
-/// The first point from one on at which the rows may change, if there is one: they stay as they are at those that are passed over.
+/// A point from one on, as far as steps lead that are doubled and then halved. Where that one is an instruction of the object's code
+/// in a section, and doesn't stand behind a place where a row waits, this holds for the result too.
 #[inline(never)]
-fn next_change(
-    graph: &Graph,
-    kept: &Kept,
-    held: Option<Held>,
-    waiting: Option<Place>,
-    from: u32,
-) -> Option<u32>
-    requires points { length kept.now ≡ length graph.now.parts.points.items }
-    requires inside { IfSome held (λ h. h.point < length kept.now) }
-    ensures within { IfSome result (λ n. (from ≤ n) × (n < length graph.now.parts.points.items)) }
-    ensures row { (p : Program) → Tells p graph.now.parts → (rows : List PlacedRow) → IfSome held (λ h. is_row_held rows h.sec (row_of_point (at kept.now) h.point) ≡ true) → (k : ℕ) → from ≤ k → MatchOption result (k < length graph.now.parts.points.items) (λ n. k < n) → is_row_held rows (p.place k).sec (row_of_point (at kept.now) k) ≡ true }
-    ensures clear { (p : Program) → Tells p graph.now.parts → (first : Place) → waiting ≡ Some first → (k : ℕ) → from ≤ k → MatchOption result (k < length graph.now.parts.points.items) (λ n. k < n) → is_lower first (p.place k) ≡ false }
+fn last_clear(graph: &Graph, waiting: Place, sec: u32, from: u32) -> u32
+    requires { from < length graph.now.parts.points.items }
+    ensures from { from ≤ result }
+    ensures within { result < length graph.now.parts.points.items }
+    ensures plain { (p : Program) → Tells p graph.now.parts → p.variant from ≡ 0 → p.variant result ≡ 0 }
+    ensures sec { (p : Program) → Tells p graph.now.parts → (p.place from).sec ≡ sec → (p.place result).sec ≡ sec }
+    ensures clear { (p : Program) → Tells p graph.now.parts → is_lower waiting (p.place from) ≡ false → is_lower waiting (p.place result) ≡ false }
 {
-    for n in from..graph.points() {
-        if !adds_none(graph, kept, held, waiting, n) {
-            return Some(n);
+    let mut low = from;
+    let mut step = 1u32;
+    while is_clear(graph, waiting, sec, low, step) {
+        low += step;
+        step = step.saturating_mul(2);
+    }
+    while step > 1 {
+        step /= 2;
+        if is_clear(graph, waiting, sec, low, step) {
+            low += step;
         }
     }
-    None
+    low
 }
+
+/// The first point from one on and before another that keeps another state than a kept point, as far as that is quickly seen. Where
+/// there is none, the other.
+#[inline(always)]
+fn next_unlike(kept: &Kept, held: u32, from: u32, to: u32) -> u32
+    requires held { held < length kept.now }
+    requires order { from ≤ to }
+    requires to { to ≤ length kept.now }
+    ensures from { from ≤ result }
+    ensures to { result ≤ to }
+    ensures state { (k : ℕ) → from ≤ k → k < result → at kept.now held ≡ at kept.now k }
+{
+    for n in from..to {
+        if !kept.are_alike(held, n) {
+            return n;
+        }
+    }
+    to
+}
+
+/// The first point from one on and before another that keeps a state. Where there is none, the other.
+#[inline(never)]
+fn next_kept(kept: &Kept, from: u32, to: u32) -> u32
+    requires order { from ≤ to }
+    requires to { to ≤ length kept.now }
+    ensures from { from ≤ result }
+    ensures to { result ≤ to }
+    ensures state { (k : ℕ) → from ≤ k → k < result → at kept.now k ≡ None }
+{
+    for n in from..to {
+        if kept.is_kept(n) {
+            return n;
+        }
+    }
+    to
+}
+
+/// The first point from one on and before another that may have another state than a held one, if one is. Where there is none, the
+/// other.
+#[inline(never)]
+fn next_change(kept: &Kept, held: Option<u32>, from: u32, to: u32) -> u32
+    requires held { IfSome held (λ h. h < length kept.now) }
+    requires from { from ≤ length kept.now }
+    requires to { to ≤ length kept.now }
+    ensures from { from ≤ result }
+    ensures within { result ≤ length kept.now }
+    ensures to { (k : ℕ) → from ≤ k → k < result → k < to }
+    ensures state { (k : ℕ) → from ≤ k → k < result → IsSomeAnd held (λ h. at kept.now h ≡ at kept.now k) }
+{
+    let Some(before) = held else {
+        return from;
+    };
+    if from >= to {
+        return from;
+    }
+    // It is seen to be like itself if it can be seen to be like others.
+    if kept.are_alike(before, before) {
+        next_unlike(kept, before, from, to)
+    } else if kept.is_kept(before) {
+        from
+    } else {
+        next_kept(kept, from, to)
+    }
+}
+
+/// Adds the rows of kept points of sites that run before a point that begins a row, and says where those end. Below the number
+/// `clear_to` there are none; from it on they are looked for, and it moves on to where there may be some again, or another section.
+#[inline(always)]
+fn push_up_to(
+    graph: &Graph,
+    kept: &Kept,
+    rows: &mut Vec<PlacedRow>,
+    more: &[u32],
+    from: usize,
+    waiting: &mut Place,
+    clear_to: &mut u32,
+    n: u32,
+    place: Place,
+) -> Result<usize, NoMemory>
+    requires points { length kept.now ≡ length graph.now.parts.points.items }
+    requires fit { Fit (at kept.now) }
+    requires more { All (λ q. q < length graph.now.parts.points.items) more.now }
+    requires from { from ≤ length more.now }
+    requires waiting { (p : Program) → Tells p graph.now.parts → (d : ℕ) → from < length more.now → waiting.old ≡ p.address (slice_index_or more.now from d) }
+    requires point { n < length graph.now.parts.points.items }
+    requires place { (p : Program) → Tells p graph.now.parts → place ≡ p.place n }
+    requires plain { (p : Program) → Tells p graph.now.parts → p.variant n ≡ 0 }
+    requires reach { clear_to.old ≤ length graph.now.parts.points.items }
+    requires section { (p : Program) → Tells p graph.now.parts → PlainPointsAscend p → n < clear_to.old → (k : ℕ) → n ≤ k → k < clear_to.old → p.variant k ≡ 0 → (p.place k).sec ≡ (p.place n).sec }
+    requires clear { (p : Program) → Tells p graph.now.parts → PlainPointsAscend p → from < length more.now → (k : ℕ) → n ≤ k → k < clear_to.old → p.variant k ≡ 0 → is_lower waiting.old (p.place k) ≡ false }
+    ensures behind { IfOk result (λ end. from ≤ end) }
+    ensures within { IfOk result (λ end. end ≤ length more.now) }
+    ensures before { IfOk result (λ end. (p : Program) → Tells p graph.now.parts → (k d : ℕ) → from ≤ k → k < end → is_lower (p.address (slice_index_or more.now k d)) place ≡ true) }
+    ensures pushed { IfOk result (λ end. (p : Program) → Tells p graph.now.parts → rows.new.items ≡ add_all rows.old.items (rows_in_sites p (at kept.now) (slice_range more.now from end))) }
+    ensures waiting { IfOk result (λ end. (p : Program) → Tells p graph.now.parts → (d : ℕ) → end < length more.now → waiting.new ≡ p.address (slice_index_or more.now end d)) }
+    ensures reach { OnOk result (clear_to.new ≤ length graph.now.parts.points.items) }
+    ensures beyond { OnOk result (n < clear_to.new) }
+    ensures section { OnOk result ((p : Program) → Tells p graph.now.parts → PlainPointsAscend p → (k : ℕ) → n ≤ k → k < clear_to.new → p.variant k ≡ 0 → (p.place k).sec ≡ (p.place n).sec) }
+    ensures clear { IfOk result (λ end. (p : Program) → Tells p graph.now.parts → PlainPointsAscend p → end < length more.now → (k : ℕ) → n ≤ k → k < clear_to.new → p.variant k ≡ 0 → is_lower waiting.new (p.place k) ≡ false) }
+{
+    if n < *clear_to {
+        return Ok(from);
+    }
+    let end = push_waiting(graph, kept, rows, more, from, waiting, place)?;
+    *clear_to = last_clear(graph, *waiting, place.sec, n) + 1;
+    Ok(end)
+}
+
+/// Of so many points one has another row than the one before, as most objects go.
+const POINTS_PER_ROW: usize = 7;
 
 /// The rows of points of the object's code and those of kept points of sites, in the order of their places and without those that
 /// are equal to the one before in their section.
@@ -310,28 +356,34 @@ pub(crate) fn list_changes(
     requires in_sites { All (λ q. q < length graph.now.parts.points.items) in_sites.now }
     ensures { IfOk result (λ rows. (p : Program) → IsCheckedBy p graph.now.parts (at kept.now) → IsIndexOf p sites.now → AreRowsInSites p (at kept.now) (rows_in_sites p (at kept.now) in_sites.now) → (all : List PlacedRow) × AreMerged p (at kept.now) (rows_in_sites p (at kept.now) in_sites.now) all × (rows.items ≡ add_all [] all)) }
 {
-    let mut rows = Vec::new(alloc);
+    let mut rows = Vec::with_capacity(alloc, graph.points() as usize / POINTS_PER_ROW)?;
     let mut next = 0usize;
     let mut waiting = address_at(graph, in_sites, next);
     let mut near = 0usize;
-    let mut held: Option<Held> = None;
+    let mut held: Option<u32> = None;
     let mut from = 0u32;
-    while let Some(n) = next_change(graph, kept, held, waiting, from) {
+    let mut clear_to = 0u32;
+    'points: loop {
+        let n = next_change(kept, held, from, clear_to);
+        if n >= graph.points() {
+            push_all(graph, kept, &mut rows, &in_sites[next..])?;
+            return Ok(rows);
+        }
         if let Some(place) = plain_place(graph, kept, sites, &mut near, n) {
-            next = push_waiting(
+            next = push_up_to(
                 graph,
                 kept,
                 &mut rows,
-                &mut held,
                 in_sites,
                 next,
                 &mut waiting,
+                &mut clear_to,
+                n,
                 place,
             )?;
-            put_row(kept, &mut rows, &mut held, n, place)?;
+            put_row(kept, &mut rows, n, place)?;
+            held = Some(n);
         }
         from = n + 1;
     }
-    push_all(graph, kept, &mut rows, &mut held, &in_sites[next..])?;
-    Ok(rows)
 }

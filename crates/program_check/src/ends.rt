@@ -1,6 +1,6 @@
 //! The rows that end sections.
 
-ghost use Rattle.std.specs.Prelude.{◌≡◌, ◌≤◌, IfOk, length, map};
+ghost use Rattle.std.specs.Prelude.{◌≡◌, ◌≤◌, ◌++◌, [], false, IfOk, OnOk, length, map};
 ghost use Rattle.machine_defs.specs.Rows.{placed, place_in};
 ghost use Rattle.ot_base.specs.Rows.{zero_row};
 ghost use Rattle.program_graph.specs.Tells.{text_of};
@@ -37,15 +37,33 @@ fn end_row(text: &TextSection) -> PlacedRow
     }
 }
 
-/// The rows of sections, each with a row at its end where it has a row.
-pub(crate) fn with_ends(
-    alloc: Global,
+/// Whether the first of these rows is in a section.
+fn begin_in(rows: &[PlacedRow], sec: u32) -> bool
+    ensures { result ≡ false → in_front sec rows.now ≡ [] }
+{
+    !rows.is_empty() && rows[0].place.sec == sec
+}
+
+/// Sections without those before the first one that has a row.
+fn without_first_empty<'a>(texts: &'a [TextSection], changes: &[PlacedRow]) -> &'a [TextSection]
+    ensures { with_ends_of (map text_of result.now) changes.now ≡ with_ends_of (map text_of texts.now) changes.now }
+{
+    for i in 0..texts.len() {
+        if begin_in(changes, texts[i].sec) {
+            return &texts[i..];
+        }
+    }
+    &texts[texts.len()..]
+}
+
+/// Adds the rows of sections, each with a row at its end where it has a row.
+fn push_sections(
+    rows: &mut Vec<PlacedRow>,
     texts: &[TextSection],
     changes: &[PlacedRow],
-) -> Result<Vec<PlacedRow>, NoMemory>
-    ensures { IfOk result (λ rows. rows.items ≡ with_ends_of (map text_of texts.now) changes.now) }
+) -> Result<(), NoMemory>
+    ensures { OnOk result (rows.new.items ≡ rows.old.items ++ with_ends_of (map text_of texts.now) changes.now) }
 {
-    let mut rows = Vec::new(alloc);
     let mut rest = changes;
     for text in texts {
         let count = count_in(rest, text.sec);
@@ -56,5 +74,28 @@ pub(crate) fn with_ends(
         }
         rest = behind;
     }
+    Ok(())
+}
+
+/// The rows of sections, each with a row at its end where it has a row. Those of the first that has one stay where they are.
+pub(crate) fn with_ends(
+    alloc: Global,
+    texts: &[TextSection],
+    changes: Vec<PlacedRow>,
+) -> Result<Vec<PlacedRow>, NoMemory>
+    ensures { IfOk result (λ rows. rows.items ≡ with_ends_of (map text_of texts.now) changes.items) }
+{
+    let mut rows = changes;
+    let texts = without_first_empty(texts, rows.as_slice());
+    if texts.is_empty() {
+        return Ok(Vec::new(alloc));
+    }
+    let count = count_in(rows.as_slice(), texts[0].sec);
+    let rest = Vec::from_slice(alloc, &rows[count..])?;
+    rows.truncate(count);
+    if count != 0 {
+        rows.push(end_row(&texts[0]))?;
+    }
+    push_sections(&mut rows, &texts[1..], rest.as_slice())?;
     Ok(rows)
 }

@@ -41,5 +41,5 @@ pub(crate) fn rows(
     let sites = SiteIndex::build(alloc, graph)?;
     let in_sites = first_points(alloc, graph, points)?;
     let changes = list_changes(alloc, graph, kept, &sites, &in_sites)?;
-    with_ends(alloc, graph.texts(), changes.as_slice())
+    with_ends(alloc, graph.texts(), changes)
 }

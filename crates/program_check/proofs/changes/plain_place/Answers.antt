@@ -11,8 +11,8 @@ none_of : (o : Option State) (b : Bool) → IsTrue b ↔ IsSome o → b ≡ fals
 none_of None b same h = refl
 none_of (Some s) b same h = let t : IsTrue b = same.1 refl in absurd (let k : ⊥ = cc in k)
 
-pub returns-then-is_kept : goal.returns-then-is_kept
-returns-then-is_kept c p t index laid begins =
+pub returns-then-is_kept-clause-begins : goal.returns-then-is_kept-clause-begins
+returns-then-is_kept-clause-begins c p t index laid begins =
     let place : c.place-place.result ≡ p.place c.args.n = c.place-place.ensures p t in
     elim c.then-is_kept.branch [
       | then-is_kept-via-then-is_kept w ↦
@@ -23,8 +23,8 @@ returns-then-is_kept c p t index laid begins =
           (sym w.ne.ensures ∙ w.if-ne.true) begins
     ]
 
-pub returns-else-ne : goal.returns-else-ne
-returns-else-ne c p t index laid =
+pub returns-else-ne-clause-begins : goal.returns-else-ne-clause-begins
+returns-else-ne-clause-begins c p t index laid =
     let place : c.place-place.result ≡ p.place c.args.n = c.place-place.ensures p t in (
       start_begins p (at c.args.kept.now) c.args.n c.place-place.result place c.args.sites.now index laid c.in-Some.site c.in-Some.ensures.held.0 c.in-Some.ensures.held.1
           (none_of (at c.args.kept.now c.args.n) c.is_kept.result c.is_kept.ensures c.if-is_kept.false)
@@ -32,8 +32,8 @@ returns-else-ne c p t index laid =
       place,
     )
 
-pub returns-in_default : goal.returns-in_default
-returns-in_default c p t index laid =
+pub returns-in_default-clause-begins : goal.returns-in_default-clause-begins
+returns-in_default-clause-begins c p t index laid =
     let place : c.place-place.result ≡ p.place c.args.n = c.place-place.ensures p t in (
       outside_begins p (at c.args.kept.now) c.args.n c.place-place.result place c.args.sites.now index laid (c.in_default.ensures.none (index_apart p c.args.sites.now laid index))
           (sym (c.variant.ensures p t) ∙ c.if-variant-ne0.false),

@@ -9,7 +9,7 @@ use Rattle.program_check.proofs.Merging.{add_all-append}
 use Rattle.program_check.proofs.changes.push_all.Goals as goal
 
 pub loop-n-init : goal.loop-n-init
-loop-n-init c = record { pushed = λ p t. refl; inside = c.requires.inside; held = c.requires.held }
+loop-n-init c = record { pushed = λ p t. refl }
 
 pub loop-n-preserved : goal.loop-n-preserved
 loop-n-preserved c =
@@ -20,14 +20,12 @@ loop-n-preserved c =
     record {
       pushed = λ p t.
           let front : List PlacedRow = rows_in_sites p states (take i more) in
-          c.in_ok-push_row.ensures.pushed
+          c.in_ok-put_row_in_site.ensures
           ∙ ap (λ (rows : List PlacedRow). after_row rows (placed c.address.result (row_of_point states x))) (c.loop-n.invariant.pushed p t)
           ∙ ap (λ (a : Place). after_row (add_all c.args.rows.now.items front) (placed a (row_of_point states x))) (c.address.ensures p t)
           ∙ sym (add_all-append c.args.rows.now.items front (row_in_site p states x ∷ []))
           ∙ ap (λ (rows : List PlacedRow). add_all c.args.rows.now.items rows) (sym (map-append (row_in_site p states) (take i more) (x ∷ [])))
           ∙ ap (λ (xs : List ℕ). add_all c.args.rows.now.items (rows_in_sites p states xs)) (sym (take_more more i 0 c.loop-n-test.true));
-      inside = c.in_ok-push_row.ensures.inside;
-      held = c.in_ok-push_row.ensures.held;
     }
 
 pub returns : goal.returns

@@ -15,8 +15,6 @@ pub loop-end-init : goal.loop-end-init
 loop-end-init c = record {
   pushed = λ p t. let none : c.args.from - c.args.from ≡ 0 = omega arith in sym (ap (λ (n : ℕ). add_all c.args.rows.now.items (rows_in_sites p (at c.args.kept.now) (take n (drop c.args.from c.args.more.now)))) none);
   before = λ p t k d l m. absurd (omega (arith, l, m));
-  inside = c.requires.inside;
-  held = c.requires.held;
 }
 
 pub loop-end-preserved : goal.loop-end-preserved
@@ -29,7 +27,7 @@ loop-end-preserved c =
     record {
       pushed = λ p t.
           let front : List PlacedRow = rows_in_sites p states (slice_range more c.args.from end) in
-          c.in_ok-push_row.ensures.pushed
+          c.in_ok-put_row_in_site.ensures
           ∙ ap (λ (rows : List PlacedRow). after_row rows (placed c.address-address.result (row_of_point states x))) (c.loop-end.invariant.pushed p t)
           ∙ ap (λ (a : Place). after_row (add_all c.args.rows.now.items front) (placed a (row_of_point states x))) (c.address-address.ensures p t)
           ∙ sym (add_all-append c.args.rows.now.items front (row_in_site p states x ∷ []))
@@ -42,8 +40,6 @@ loop-end-preserved c =
             let before : is_before (p.address x) c.args.place ≡ true = ap (λ (a : Place). is_before a c.args.place) (sym (c.address-address.ensures p t)) ∙ (sym c.is_before.ensures ∙ c.if-not-is_before.false) in
             subst (λ (q : ℕ). is_before (p.address q) c.args.place ≡ true) (get_or_default more end 0 d c.loop-end-test.true ∙ ap (λ (j : ℕ). get_or more j d) e) before
       ];
-      inside = c.in_ok-push_row.ensures.inside;
-      held = c.in_ok-push_row.ensures.held;
     }
 
 pub returns-then-not-is_before-clause-other : goal.returns-then-not-is_before-clause-other

@@ -1,6 +1,6 @@
--- A section's rows in front, its end, and the rest.
-use Rattle.std.proofs.Common.{◌≡◌, ℕ, ◌+◌, ◌++◌, ◌∷◌, [], List, length, take, drop, map, get_or, sym, ap, ◌∙◌}
-use Rattle.std.proofs.lemmas.List.{at_drop_more, append-nil, drop_all}
+-- The first section that has rows, its end, and the rows of the others.
+use Rattle.std.proofs.Common.{◌≡◌, ◌<◌, ℕ, ◌++◌, ◌∷◌, [], List, length, take, drop, map, get_or, sym, ap, subst, ◌∙◌, arith}
+use Rattle.std.proofs.lemmas.List.{at_drop_more, take_rest}
 use Rattle.ot_base.specs.declared.row.PlacedRow.{PlacedRow}
 use Rattle.program_graph.specs.declared.parts.TextSection.{TextSection}
 use Rattle.program_graph.specs.Tells.{text_of}
@@ -12,36 +12,36 @@ use Rattle.program_check.proofs.ends.with_ends.Goals.{then-count-ne0+in_ok-push,
 none : TextSection
 none = record { sec = 0; size = 0 }
 
-pub loop-text-preserved : goal.loop-text-preserved
+pub returns : goal.returns
 unfolding none
-loop-text-preserved c =
-    let texts : List TextSection = c.args.texts.now in
-    let i : ℕ = c.loop-text.text-index in
-    let text : TextSection = get_or texts i none in
-    let rest : List PlacedRow = c.loop-text.rest.now in
-    let rows : List PlacedRow = c.loop-text.rows.items in
-    let after : List TextSection = drop (i + 1) texts in
+returns c =
+    let texts : List TextSection = c.without_first_empty-texts.result.now in
+    let text : TextSection = get_or texts 0 none in
+    let changes : List PlacedRow = c.args.changes.items in
+    let after : List TextSection = drop 1 texts in
     let n : ℕ = c.count_in-count.result in
-    let count : n ≡ length (in_front text.sec rest) = c.count_in-count.ensures.front in
-    let front : c.split_at.result.0.now ≡ in_front text.sec rest = c.split_at.ensures.front ∙ (ap (λ (m : ℕ). take m rest) count ∙ take_front text.sec rest) in
-    let behind : c.split_at.result.1.now ≡ drop (length (in_front text.sec rest)) rest = c.split_at.ensures.back ∙ ap (λ (m : ℕ). drop m rest) count in
-    let long : length c.split_at.result.0.now ≡ n = ap length front ∙ sym count in
-    let more : rows ++ with_ends (map text_of (drop i texts)) rest ≡ rows ++ with_ends (text_of text ∷ map text_of after) rest = at_drop_more (λ (ts : List TextSection). rows ++ with_ends (map text_of ts) rest) texts i none c.loop-text-test.true in
-    let extended : c.extend_from_slice.new.self.items ≡ rows ++ c.split_at.result.0.now = c.in_ok-extend_from_slice.ensures.items in
+    let count : n ≡ length (in_front text.sec changes) = c.count_in-count.ensures.front ∙ ap (λ (xs : List PlacedRow). length (in_front text.sec xs)) c.as_slice-2.ensures.value in
+    let front : take n changes ≡ in_front text.sec changes = ap (λ (m : ℕ). take m changes) count ∙ take_front text.sec changes in
+    let rest : c.as_slice-3.result.now ≡ drop n changes = c.as_slice-3.ensures.value ∙ (c.in_ok-rest.ensures.items ∙ (take_rest c.deref.result.now n ∙ ap (λ (xs : List PlacedRow). drop n xs) c.deref.ensures.value)) in
+    let behind : c.as_slice-3.result.now ≡ drop (length (in_front text.sec changes)) changes = rest ∙ ap (λ (m : ℕ). drop m changes) count in
+    let long : length (take n changes) ≡ n = ap length front ∙ sym count in
+    let some : 0 < length texts = (let h = c.if-is_empty.false in let e = c.is_empty.ensures in grind arith) in
+    let more : with_ends (map text_of texts) changes ≡ with_ends (text_of text ∷ map text_of after) changes = at_drop_more (λ (ts : List TextSection). with_ends (map text_of ts) changes) texts 0 none some in
+    let skipped : with_ends (map text_of texts) changes ≡ with_ends (map text_of c.args.texts.now) changes = subst (λ (xs : List PlacedRow). with_ends (map text_of texts) xs ≡ with_ends (map text_of c.args.texts.now) xs) c.as_slice.ensures.value c.without_first_empty-texts.ensures in
+    let truncated : c.truncate.new.self.items ≡ take n changes = c.truncate.ensures.items in
     elim c.if-count-ne0.branch [
       | then-count-ne0+in_ok-push w ↦
           let is = w.rows-is in
-          let rest_is = w.rest-is in
           let pushed = w.in_ok-push.ensures.items in
           let end = w.end_row.ensures in
-          rw (is, rest_is, pushed, extended, end) (end_added (text_of text) (map text_of after) rows rest c.split_at.result.0.now c.split_at.result.1.now front behind (λ e. w.if-count-ne0.true (sym long ∙ e)) ∙ sym more ∙ c.loop-text.invariant)
+          c.in_ok-push_sections.ensures
+          ∙ ap (λ (ts : List TextSection). c.if-count-ne0.rows.items ++ with_ends (map text_of ts) c.as_slice-3.result.now) (take_rest texts 1)
+          ∙ (rw (is, pushed, truncated, end) (end_added (text_of text) (map text_of after) [] changes (take n changes) c.as_slice-3.result.now front behind (λ e. w.if-count-ne0.true (sym long ∙ e))))
+          ∙ sym more ∙ skipped
       | else-count-ne0 w ↦
           let is = w.rows-is in
-          let rest_is = w.rest-is in
-          rw (is, rest_is, extended) (no_end (text_of text) (map text_of after) rows rest c.split_at.result.0.now c.split_at.result.1.now front behind (long ∙ w.if-count-ne0.false) ∙ sym more ∙ c.loop-text.invariant)
+          c.in_ok-push_sections.ensures
+          ∙ ap (λ (ts : List TextSection). c.if-count-ne0.rows.items ++ with_ends (map text_of ts) c.as_slice-3.result.now) (take_rest texts 1)
+          ∙ (rw (is, truncated) (no_end (text_of text) (map text_of after) [] changes (take n changes) c.as_slice-3.result.now front behind (long ∙ w.if-count-ne0.false)))
+          ∙ sym more ∙ skipped
     ]
-
-pub returns : goal.returns
-returns c =
-    let none_left : drop c.loop-text.text-index c.args.texts.now ≡ [] = drop_all c.loop-text.text-index c.args.texts.now c.loop-text-test.false in
-    sym (append-nil c.loop-text.rows.items) ∙ ap (λ (ts : List TextSection). c.loop-text.rows.items ++ with_ends (map text_of ts) c.loop-text.rest.now) (sym none_left) ∙ c.loop-text.invariant

@@ -39,6 +39,6 @@ returns c = IfOk-weaker c.with_ends.result _ _ (λ rows made p checked. ∥∥�
     let changes = c.in_ok-changes.ensures p checked (c.in_ok-sites.ensures p checked.tells) in_sites in
     let all = all_is p (at kept) checked.laid checked.kept checked.accepted (kept_is_point p kept checked.kept (checked.tells.count ∙ sym c.requires.points)) (rows_in_sites p (at kept) firsts) changes.0 in_sites changes.1 in
     made
-    ∙ ap (λ (texts : List TextSection). with_ends texts c.as_slice.result.now) (c.texts.ensures p checked.tells)
-    ∙ ap (with_ends p.texts) (c.as_slice.ensures.value ∙ changes.2)
+    ∙ ap (λ (texts : List TextSection). with_ends texts c.in_ok-changes.changes.items) (c.texts.ensures p checked.tells)
+    ∙ ap (with_ends p.texts) changes.2
     ∙ table_is p (at kept) changes.0 checked.laid.sections all)) c.with_ends.ensures
