@@ -38,7 +38,7 @@ brings_only s t u op kind brought along is b =
     let one : option_to_list (Some t) ≡ u ∷ [] = subst (λ (o : Option State). option_to_list o ≡ u ∷ []) b (is ∙ along) in
     let same : t ≡ u = cc in same
 
-unmarked_warns_none : (place : Place) (s : State) (owner : Option ℕ) (marks : Marks) (w : Warning) → is_unmarked marks ≡ true → MarksWarn place s owner marks w → ⊥
+pub unmarked_warns_none : (place : Place) (s : State) (owner : Option ℕ) (marks : Marks) (w : Warning) → is_unmarked marks ≡ true → MarksWarn place s owner marks w → ⊥
 unmarked_warns_none place s owner marks w h (inl (e, k)) = grind arith
 unmarked_warns_none place s owner marks w h (inr (inl ((e, f), k))) = grind arith
 unmarked_warns_none place s owner marks w h (inr (inr (inl (e, k)))) = grind arith
@@ -51,12 +51,12 @@ no_role place op s leaves (JumpOut sym) w h k = let z : ⊥ = cc in z
 no_role place op s leaves JumpAny w h k = let z : ⊥ = cc in z
 no_role place op s leaves _ w h k = k
 
-no_operation : (place : Place) (op : Op) (s t : State) (before : Bool) (w : Warning) → is_exit op ≡ false → move s op ≡ Ok t → OperationWarns place op s before w → ⊥
+pub no_operation : (place : Place) (op : Op) (s t : State) (before : Bool) (w : Warning) → is_exit op ≡ false → move s op ≡ Ok t → OperationWarns place op s before w → ⊥
 no_operation place op s t before w h m (inl (rule, (e, f), k)) = let z : ⊥ = cc in z
 no_operation place op s t before w h m (inr (inl ((e, b), k))) = let n : is_exit Switch ≡ false = subst (λ (o : Op). is_exit o ≡ false) e h in let z : ⊥ = cc in z
 no_operation place op s t before w h m (inr (inr ((e, b), k))) = let n : is_exit Iret ≡ false = subst (λ (o : Op). is_exit o ≡ false) e h in let z : ⊥ = cc in z
 
-no_row : (place : Place) (s : State) (w : Warning) → unfit_offset s ≡ None → RowWarns place s w → ⊥
+pub no_row : (place : Place) (s : State) (w : Warning) → unfit_offset s ≡ None → RowWarns place s w → ⊥
 no_row place s w h (a, e, k) = let z : ⊥ = cc in z
 
 moved_along : (s t : State) (op : Op) → move s op ≡ Ok t → brought_along s op Next ≡ t ∷ []

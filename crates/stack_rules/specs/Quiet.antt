@@ -3,15 +3,16 @@ use Rattle.std.specs.Prelude.{◌≡◌, ◌≢◌, ℕ, Bool, true, false, not,
 use Rattle.std.specs.BTreeSet.{BTreeSet, contains}
 use Rattle.std.specs.Ordering.{nat_cmp}
 use Rattle.operation_defs.specs.declared.op.Op.{Op}
-use Rattle.operation_defs.specs.declared.op.Op.TheVariants.{Switch, Iret}
+use Rattle.operation_defs.specs.declared.op.Op.TheVariants.{Switch, Iret, Ret}
 use Rattle.machine_defs.specs.declared.flow.Edge.{Edge}
 use Rattle.machine_defs.specs.declared.flow.EdgeKind.TheVariants.{Next, Sibling}
 use Rattle.machine_defs.specs.declared.flow.Marks.{Marks}
 use Rattle.machine_defs.specs.declared.flow.Role.{Role}
 use Rattle.machine_defs.specs.declared.flow.Role.TheVariants.{Return, JumpOut, JumpAny}
 use Rattle.state_defs.specs.declared.state.State.{State}
-use Rattle.state_defs.specs.Move.{move}
+use Rattle.state_defs.specs.Move.{has_near_numbers, move}
 use Rattle.state_defs.specs.Row.{unfit_offset}
+use Rattle.state_defs.specs.Rules.{return_rule}
 use Rattle.machine_defs.specs.Program.{Program}
 use Rattle.machine_defs.specs.Kept.{brought_along, edges_of}
 use Rattle.kept_states.specs.LevelStates.{at}
@@ -54,3 +55,14 @@ pub record IsQuiet (p : Program) (states : List (Option State)) (q : ℕ) : Type
   pub stays : stays (p.role q) ≡ true
   pub unmarked : is_unmarked (p.marks q) ≡ true
   pub leads : (s : State) → at states q ≡ Some s → All (Leads p states q s) (edges_of p q)
+
+-- the point is a return that the state allows which it keeps
+pub record IsQuietReturn (p : Program) (states : List (Option State)) (q : ℕ) : Type 0 where
+  pub op : (p.insn q).op ≡ Ret
+  pub role : p.role q ≡ Return
+  pub some : IsSome (at states q)
+  pub near : (s : State) → at states q ≡ Some s → has_near_numbers s ≡ true
+  pub fit : (s : State) → at states q ≡ Some s → unfit_offset s ≡ None
+  pub allowed : (s : State) → at states q ≡ Some s → return_rule s ≡ None
+  pub unmarked : is_unmarked (p.marks q) ≡ true
+  pub edges : edges_of p q ≡ []

@@ -13,7 +13,7 @@ ghost use Rattle.stack_rules.specs.Quiet.{ArePassing, IsQuiet, Leads, Passes, is
 
 use crate::arrivals::falls_out;
 use crate::numbers::is_same;
-use kept_states::{Kept, is_neutral};
+use kept_states::Kept;
 use machine_defs::{Edge, EdgeKind, Marks, Role};
 use operation_defs::Op;
 use ot_base::NoMemory;
@@ -30,7 +30,7 @@ fn is_exit(op: Op) -> bool
 }
 
 /// Whether nothing is wrong with where control goes, and no relocation changes a number of the stack.
-fn is_unmarked(marks: Marks) -> bool
+pub(crate) fn is_unmarked(marks: Marks) -> bool
     ensures { result ≡ is_unmarked_by marks }
 {
     !(marks.bad | marks.past_end | marks.into_site | marks.into_function | marks.relocated)
@@ -69,14 +69,17 @@ fn passes(graph: &Graph, kept: &Kept, n: u32, edge: Edge) -> bool
     !is_sibling(edge.kind) && !falls_out(graph, n, edge) && kept.are_alike(edge.to, n)
 }
 
-/// Whether each of these edges of a point does.
+/// Whether a point keeps a short state, and each of its edges passes.
 #[inline(never)]
-fn each_passes(graph: &Graph, kept: &Kept, n: u32, edges: &[Edge]) -> bool
+fn each_passes(graph: &Graph, kept: &Kept, n: u32) -> bool
     requires points { length kept.now ≡ length graph.now.parts.points.items }
     requires point { n < length graph.now.parts.points.items }
-    requires within { All (λ e. e.to < length graph.now.parts.points.items) edges.now }
-    ensures { IsTrue result → (p : Program) → Tells p graph.now.parts → All (Passes p kept.now n) edges.now }
+    ensures { IsTrue result → (p : Program) → Tells p graph.now.parts → All (Passes p kept.now n) (edges_of p n) }
 {
+    if !kept.is_short(n) {
+        return false;
+    }
+    let edges = graph.successors(n);
     for edge in edges {
         if !passes(graph, kept, n, *edge) {
             return false;
@@ -94,7 +97,7 @@ fn all_pass(graph: &Graph, kept: &Kept, n: u32) -> bool
 {
     match graph.only_edge(n) {
         Some(edge) => passes(graph, kept, n, edge),
-        None => each_passes(graph, kept, n, graph.successors(n)),
+        None => each_passes(graph, kept, n),
     }
 }
 
@@ -157,17 +160,16 @@ fn stays_next(graph: &Graph, n: u32, edge: Edge) -> bool
     is_next(edge.kind) && graph.have_one_owner(edge.to, n)
 }
 
-/// Whether an operation moves the state of a point to that of another.
-fn moves_to(kept: &Kept, op: Op, n: u32, to: u32) -> bool
-    requires from { n < length kept.now }
-    requires to { to < length kept.now }
-    ensures { IsTrue result → (s : State) → at kept.now n ≡ Some s → (t : State) × (move s op ≡ Ok t) × (at kept.now to ≡ Some t) }
+/// Whether the operation of a point moves its state to that of another, as a step tells.
+#[inline(never)]
+fn steps_to(graph: &Graph, kept: &Kept, n: u32, to: u32) -> bool
+    requires points { length kept.now ≡ length graph.now.parts.points.items }
+    requires from { n < length graph.now.parts.points.items }
+    requires to { to < length graph.now.parts.points.items }
+    ensures { IsTrue result → (p : Program) → Tells p graph.now.parts → (s : State) → at kept.now n ≡ Some s → (t : State) × (move s (p.insn n).op ≡ Ok t) × (at kept.now to ≡ Some t) }
 {
-    if kept.moves_to(op, n, to) {
-        return true;
-    }
     match (kept.state(n), kept.state(to)) {
-        (Some(before), Some(after)) => match step(before, op) {
+        (Some(before), Some(after)) => match step(before, graph.insn(n).op) {
             Ok(moved) => is_same(moved, after),
             Err(_) => false,
         },
@@ -175,27 +177,56 @@ fn moves_to(kept: &Kept, op: Op, n: u32, to: u32) -> bool
     }
 }
 
-/// Whether the operation of a point is no way out, and moves its state to that of the next instruction, of the same owner, to
-/// which alone control goes.
+/// Whether the operation of a point moves its state to that of another.
 #[inline(never)]
-fn moves_on(graph: &Graph, kept: &Kept, n: u32) -> bool
+fn moves_to(graph: &Graph, kept: &Kept, n: u32, to: u32) -> bool
     requires points { length kept.now ≡ length graph.now.parts.points.items }
-    requires point { n < length graph.now.parts.points.items }
+    requires from { n < length graph.now.parts.points.items }
+    requires to { to < length graph.now.parts.points.items }
+    ensures { IsTrue result → (p : Program) → Tells p graph.now.parts → (s : State) → at kept.now n ≡ Some s → (t : State) × (move s (p.insn n).op ≡ Ok t) × (at kept.now to ≡ Some t) }
+{
+    kept.moves_to(graph.insn(n).op, n, to) || steps_to(graph, kept, n, to)
+}
+
+/// Whether the operation of a point is no way out, and moves its state to that of the next instruction, of the same owner, to
+/// which this edge leads.
+#[inline(always)]
+fn moves_along(graph: &Graph, kept: &Kept, n: u32, edge: Edge) -> bool
+    requires points { length kept.now ≡ length graph.now.parts.points.items }
+    requires from { n < length graph.now.parts.points.items }
+    requires to { edge.to < length graph.now.parts.points.items }
     ensures exit { IsTrue result → (p : Program) → Tells p graph.now.parts → is_exit_op (p.insn n).op ≡ false }
     ensures moves { IsTrue result → (p : Program) → Tells p graph.now.parts → (s : State) → at kept.now n ≡ Some s → (t : State) × (move s (p.insn n).op ≡ Ok t) }
-    ensures leads { IsTrue result → (p : Program) → Tells p graph.now.parts → (s : State) → at kept.now n ≡ Some s → All (Leads p kept.now n s) (edges_of p n) }
+    ensures leads { IsTrue result → (p : Program) → Tells p graph.now.parts → (s : State) → at kept.now n ≡ Some s → Leads p kept.now n s edge }
 {
-    let Some(edge) = graph.only_edge(n) else {
-        return false;
-    };
     if !stays_next(graph, n, edge) {
         return false;
     }
-    let op = graph.insn(n).op;
-    if is_exit(op) {
+    if is_exit(graph.insn(n).op) {
         return false;
     }
-    moves_to(kept, op, n, edge.to)
+    moves_to(graph, kept, n, edge.to)
+}
+
+/// Whether an operation leaves each state as it is, and is no indirect jump.
+#[inline(always)]
+fn is_still(op: Op) -> bool
+    ensures { IsTrue result → is_neutral_op op ≡ true }
+{
+    matches!(
+        op,
+        Op::Plain
+            | Op::Nop
+            | Op::Endbr
+            | Op::Call { .. }
+            | Op::CallInd
+            | Op::Jmp { .. }
+            | Op::Jcc { .. }
+            | Op::Ud2
+            | Op::Int3
+            | Op::Stac
+            | Op::Clac
+    )
 }
 
 /// Whether an operation is an indirect jump.
@@ -238,14 +269,13 @@ pub(crate) fn is_quiet(graph: &Graph, kept: &Kept, n: u32) -> bool
     if !is_allowed(graph, kept, n) {
         return false;
     }
-    let op = graph.insn(n).op;
-    if !is_neutral(op) {
-        return moves_on(graph, kept, n);
+    let Some(edge) = graph.only_edge(n) else {
+        return is_still(graph.insn(n).op) && each_passes(graph, kept, n);
+    };
+    if is_still(graph.insn(n).op) {
+        return passes(graph, kept, n, edge);
     }
-    if is_indirect_jump(op) {
-        return false;
-    }
-    all_pass(graph, kept, n)
+    moves_along(graph, kept, n, edge)
 }
 
 /// Whether a point is an indirect jump at which it is quickly seen that no rule is broken. Points are known all of whose

@@ -124,6 +124,19 @@ fn push_start(
     Ok(())
 }
 
+/// Whether a point runs in a gap. Most points run where they stand.
+#[inline(always)]
+fn is_inside(graph: &Graph, gap: Gap, n: u32) -> bool
+    requires { n < length graph.now.parts.points.items }
+    ensures { (p : Program) → Tells p graph.now.parts → result ≡ is_in_gap gap (p.address n) }
+{
+    if graph.is_usual(n) {
+        gap.has(graph.place(n))
+    } else {
+        gap.has(graph.address(n))
+    }
+}
+
 /// The first point from one on that doesn't run in a gap, if there is one.
 #[inline(never)]
 fn next_outside(graph: &Graph, gap: Gap, from: u32) -> Option<u32>
@@ -131,7 +144,7 @@ fn next_outside(graph: &Graph, gap: Gap, from: u32) -> Option<u32>
     ensures inside { (p : Program) → Tells p graph.now.parts → (k : ℕ) → from ≤ k → MatchOption result (k < length graph.now.parts.points.items) (λ n. k < n) → is_in_gap gap (p.address k) ≡ true }
 {
     for n in from..graph.points() {
-        if !gap.has(graph.address(n)) {
+        if !is_inside(graph, gap, n) {
             return Some(n);
         }
     }
