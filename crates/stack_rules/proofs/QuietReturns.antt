@@ -1,24 +1,21 @@
 -- At a return that its state allows no rule is broken.
-use Rattle.std.proofs.Common.{◌≡◌, ◌≢◌, ℕ, Bool, true, false, arith, Option, Some, None, List, [], ◌⊎◌, inl, inr, Ok, refl, sym, subst, Contains}
-use Rattle.std.specs.Prelude.{IsSome}
+use Rattle.std.proofs.Common.{◌≡◌, ℕ, Bool, true, arith, Option, Some, None, List, inl, inr, Ok, refl, subst, Contains}
 use Rattle.unwinding_law.proofs.Lists.{nowhere}
 use Rattle.ot_base.specs.declared.place.Place.{Place}
 use Rattle.ot_base.specs.declared.warning.Warning.{Warning}
 use Rattle.operation_defs.specs.declared.op.Op.{Op}
-use Rattle.operation_defs.specs.declared.op.Op.TheVariants.{Ret, RetImm}
+use Rattle.operation_defs.specs.declared.op.Op.TheVariants.{Ret}
 use Rattle.machine_defs.specs.declared.flow.Edge.{Edge}
 use Rattle.machine_defs.specs.declared.flow.Role.{Role}
-use Rattle.machine_defs.specs.declared.flow.Role.TheVariants.{Return}
 use Rattle.state_defs.specs.declared.state.State.{State}
 use Rattle.state_defs.specs.declared.state.State.TheVariants.{Live, Ended, Regs}
 use Rattle.state_defs.specs.Move.{has_near_numbers, move}
 use Rattle.state_defs.specs.Rules.{return_rule}
 use Rattle.machine_defs.specs.Program.{Program}
-use Rattle.machine_defs.specs.Kept.{edges_of}
 use Rattle.machine_defs.specs.Ways.{is_before_hint, may_leave}
 use Rattle.kept_states.specs.LevelStates.{at}
-use Rattle.stack_rules.specs.PointWarns.{EdgesWarn, KeptWarns, OperationWarns, PointWarns, ReturnWarns, RoleWarns}
-use Rattle.stack_rules.specs.Quiet.{IsQuietReturn, is_exit}
+use Rattle.stack_rules.specs.PointWarns.{KeptWarns, OperationWarns, PointWarns, ReturnWarns, RoleWarns}
+use Rattle.stack_rules.specs.Quiet.{IsQuietReturn}
 use Rattle.stack_rules.proofs.QuietPoints.{no_operation, no_row, unmarked_warns_none}
 
 -- a return leaves a state as it is whose numbers are near

@@ -269,13 +269,14 @@ pub(crate) fn is_quiet(graph: &Graph, kept: &Kept, n: u32) -> bool
     if !is_allowed(graph, kept, n) {
         return false;
     }
-    let Some(edge) = graph.only_edge(n) else {
+    let edges = graph.successors(n);
+    if edges.len() != 1 {
         return is_still(graph.insn(n).op) && each_passes(graph, kept, n);
-    };
-    if is_still(graph.insn(n).op) {
-        return passes(graph, kept, n, edge);
     }
-    moves_along(graph, kept, n, edge)
+    if is_still(graph.insn(n).op) {
+        return passes(graph, kept, n, edges[0]);
+    }
+    moves_along(graph, kept, n, edges[0])
 }
 
 /// Whether a point is an indirect jump at which it is quickly seen that no rule is broken. Points are known all of whose

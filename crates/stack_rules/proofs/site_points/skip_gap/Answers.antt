@@ -2,7 +2,7 @@
 use Rattle.std.proofs.Common.{◌≡◌, ℕ, true, inl, inr, arith, sym, subst, ◌∙◌}
 use Rattle.std.proofs.lemmas.Bool.{cases_lt}
 use Rattle.stack_rules.specs.Gaps.{is_in_gap}
-use Rattle.stack_rules.proofs.site_points.next_outside.Goals as goal
+use Rattle.stack_rules.proofs.site_points.skip_gap.Goals as goal
 
 pub loop-n-init : goal.loop-n-init
 loop-n-init c p t k low high = absurd (omega (arith, low, high))
