@@ -1,5 +1,5 @@
 -- Points at which no rule is broken, as their operation moves the state, and the moved one is kept where control goes.
-use Rattle.std.specs.Prelude.{◌≡◌, ◌≢◌, ℕ, Bool, true, false, not, ◌&&◌, List, [], ◌∷◌, Option, Some, None, Ok, IsSome, IsTrue, All}
+use Rattle.std.specs.Prelude.{◌≡◌, ◌≢◌, ◌⊎◌, ℕ, Bool, true, false, not, ◌&&◌, List, [], ◌∷◌, Option, Some, None, Ok, IsSome, IsTrue, All}
 use Rattle.std.specs.BTreeSet.{BTreeSet, contains}
 use Rattle.std.specs.Ordering.{nat_cmp}
 use Rattle.operation_defs.specs.declared.op.Op.{Op}
@@ -12,10 +12,11 @@ use Rattle.machine_defs.specs.declared.flow.Role.TheVariants.{Return, JumpOut, J
 use Rattle.state_defs.specs.declared.state.State.{State}
 use Rattle.state_defs.specs.Move.{has_near_numbers, move}
 use Rattle.state_defs.specs.Row.{unfit_offset}
-use Rattle.state_defs.specs.Rules.{return_rule}
+use Rattle.state_defs.specs.Rules.{return_rule, sibling_rule}
 use Rattle.machine_defs.specs.Program.{Program}
 use Rattle.machine_defs.specs.Kept.{brought_along, edges_of}
 use Rattle.kept_states.specs.LevelStates.{at}
+use Rattle.kept_states.specs.Neutral.{is_neutral}
 
 -- whether the operation is a way out that a state has to allow
 abbrev pub is_exit : Op → Bool
@@ -56,13 +57,13 @@ pub record IsQuiet (p : Program) (states : List (Option State)) (q : ℕ) : Type
   pub unmarked : is_unmarked (p.marks q) ≡ true
   pub leads : (s : State) → at states q ≡ Some s → All (Leads p states q s) (edges_of p q)
 
--- the point is a return that the state allows which it keeps
-pub record IsQuietReturn (p : Program) (states : List (Option State)) (q : ℕ) : Type 0 where
-  pub op : (p.insn q).op ≡ Ret
-  pub role : p.role q ≡ Return
+-- from the point control goes to no point, and where that is out of the function, the state that it keeps allows it
+pub record IsQuietExit (p : Program) (states : List (Option State)) (q : ℕ) : Type 0 where
+  pub op : ((p.insn q).op ≡ Ret) ⊎ (is_neutral (p.insn q).op ≡ true)
   pub some : IsSome (at states q)
   pub near : (s : State) → at states q ≡ Some s → has_near_numbers s ≡ true
   pub fit : (s : State) → at states q ≡ Some s → unfit_offset s ≡ None
-  pub allowed : (s : State) → at states q ≡ Some s → return_rule s ≡ None
+  pub returns : (s : State) → at states q ≡ Some s → return_rule s ≡ None
+  pub jumps : (s : State) → at states q ≡ Some s → sibling_rule s ≡ None
   pub unmarked : is_unmarked (p.marks q) ≡ true
   pub edges : edges_of p q ≡ []

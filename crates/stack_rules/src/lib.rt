@@ -13,7 +13,7 @@ mod numbers;
 mod offsets;
 mod point_rules;
 mod quiet;
-mod quiet_returns;
+mod quiet_exits;
 mod site_check;
 mod site_index;
 mod site_points;

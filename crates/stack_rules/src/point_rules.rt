@@ -18,7 +18,7 @@ use crate::exits::{push_marks, push_operation, push_role};
 use crate::listing::{bare_warning, is_restore, push};
 use crate::numbers::push_row;
 use crate::quiet::{is_quiet, is_quiet_jump};
-use crate::quiet_returns::is_quiet_return;
+use crate::quiet_exits::is_quiet_exit;
 use crate::ways::{is_before_hint, may_leave};
 use kept_states::Kept;
 use ot_base::rules::{FUNCTION_WITHOUT_SIZE, RESTORE_WITHOUT_SAVE};
@@ -117,7 +117,7 @@ fn push_point(
     ensures passing { OnOk result ((p : Program) → Tells p graph.now.parts → ArePassing p kept.now passing.new) }
     ensures warnings { OnOk result ((p : Program) → Checks p graph.now.parts kept.now → Gains into.old.items into.new.items (PointWarns p kept.now n)) }
 {
-    if is_quiet_return(graph, kept, n) {
+    if is_quiet_exit(graph, kept, n) {
         return Ok(());
     }
     if is_quiet_jump(graph, kept, passing, n)? {

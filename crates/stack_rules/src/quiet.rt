@@ -168,12 +168,15 @@ fn steps_to(graph: &Graph, kept: &Kept, n: u32, to: u32) -> bool
     requires to { to < length graph.now.parts.points.items }
     ensures { IsTrue result → (p : Program) → Tells p graph.now.parts → (s : State) → at kept.now n ≡ Some s → (t : State) × (move s (p.insn n).op ≡ Ok t) × (at kept.now to ≡ Some t) }
 {
-    match (kept.state(n), kept.state(to)) {
-        (Some(before), Some(after)) => match step(before, graph.insn(n).op) {
-            Ok(moved) => is_same(moved, after),
-            Err(_) => false,
-        },
-        (Some(_) | None, _) => false,
+    let Some(before) = kept.state(n) else {
+        return false;
+    };
+    let Ok(moved) = step(before, graph.insn(n).op) else {
+        return false;
+    };
+    match kept.state(to) {
+        Some(after) => is_same(moved, after),
+        None => false,
     }
 }
 
@@ -210,7 +213,7 @@ fn moves_along(graph: &Graph, kept: &Kept, n: u32, edge: Edge) -> bool
 
 /// Whether an operation leaves each state as it is, and is no indirect jump.
 #[inline(always)]
-fn is_still(op: Op) -> bool
+pub(crate) fn is_still(op: Op) -> bool
     ensures { IsTrue result → is_neutral_op op ≡ true }
 {
     matches!(
