@@ -69,7 +69,7 @@ fn passes(graph: &Graph, kept: &Kept, n: u32, edge: Edge) -> bool
     !is_sibling(edge.kind) && !falls_out(graph, n, edge) && kept.are_alike(edge.to, n)
 }
 
-/// Whether a point keeps a short state, and each of its edges passes.
+/// Whether a point keeps a state whose numbers have 16 bits, and each of its edges passes.
 #[inline(never)]
 fn each_passes(graph: &Graph, kept: &Kept, n: u32) -> bool
     requires points { length kept.now ≡ length graph.now.parts.points.items }
