@@ -1,6 +1,7 @@
 -- At a quiet point no rule is broken.
 use Rattle.std.proofs.Common.{◌≡◌, ◌≢◌, ℕ, Bool, true, false, ◌<◌, All, ap, get_or, length, arith, Option, Some, None, List, [], ◌∷◌, inl, inr, Ok, refl, sym, ◌∙◌, subst}
 use Rattle.std.specs.Prelude.{IsSome, is_some, option_to_list}
+use Rattle.std.proofs.lemmas.Bool.{cases_lt}
 use Rattle.std.proofs.lemmas.List.{get_or_default}
 use Rattle.std.proofs.lemmas.List.Elements.{All-contains}
 use Rattle.ot_base.specs.declared.place.Place.{Place}
@@ -68,6 +69,19 @@ single P edges d one h = λ i e l.
     let first : 0 < length edges = omega (arith, one) in
     let same : 0 ≡ i = omega (arith, one, l) in
     subst P (get_or_default edges 0 d e first ∙ ap (λ (k : ℕ). get_or edges k e) same) h
+
+-- and what holds of two edges
+pub pair : (P : Edge → Type 0) (edges : List Edge) (d : Edge) → length edges ≡ 2 → P (get_or edges 0 d) → P (get_or edges 1 d) → All P edges
+pair P edges d two one other = λ i e l. elim (cases_lt i 1) [
+  | inl low ↦
+      let first : 0 < length edges = omega (arith, two) in
+      let same : 0 ≡ i = omega (arith, low) in
+      subst P (get_or_default edges 0 d e first ∙ ap (λ (k : ℕ). get_or edges k e) same) one
+  | inr high ↦
+      let second : 1 < length edges = omega (arith, two) in
+      let same : 1 ≡ i = omega (arith, two, l, high) in
+      subst P (get_or_default edges 1 d e second ∙ ap (λ (k : ℕ). get_or edges k e) same) other
+]
 
 -- an operation that leaves each state as it is is no way out
 pub neutral_stays : (op : Op) → is_neutral op ≡ true → is_exit op ≡ false

@@ -69,23 +69,37 @@ fn passes(graph: &Graph, kept: &Kept, n: u32, edge: Edge) -> bool
     !is_sibling(edge.kind) && !falls_out(graph, n, edge) && kept.are_alike(edge.to, n)
 }
 
-/// Whether a point keeps a state whose numbers have 16 bits, and each of its edges passes.
+/// Whether each of these edges of a point passes.
 #[inline(never)]
-fn each_passes(graph: &Graph, kept: &Kept, n: u32) -> bool
+fn each_passes(graph: &Graph, kept: &Kept, n: u32, edges: &[Edge]) -> bool
     requires points { length kept.now ≡ length graph.now.parts.points.items }
     requires point { n < length graph.now.parts.points.items }
-    ensures { IsTrue result → (p : Program) → Tells p graph.now.parts → All (Passes p kept.now n) (edges_of p n) }
+    requires within { All (λ e. e.to < length graph.now.parts.points.items) edges.now }
+    ensures { IsTrue result → (p : Program) → Tells p graph.now.parts → All (Passes p kept.now n) edges.now }
 {
-    if !kept.is_short(n) {
-        return false;
-    }
-    let edges = graph.successors(n);
     for edge in edges {
         if !passes(graph, kept, n, *edge) {
             return false;
         }
     }
     true
+}
+
+/// Whether each edge of a point passes. Most points that don't have one have two.
+#[inline(never)]
+fn several_pass(graph: &Graph, kept: &Kept, n: u32) -> bool
+    requires points { length kept.now ≡ length graph.now.parts.points.items }
+    requires point { n < length graph.now.parts.points.items }
+    ensures { IsTrue result → (p : Program) → Tells p graph.now.parts → All (Passes p kept.now n) (edges_of p n) }
+{
+    let edges = graph.successors(n);
+    if edges.len() != 2 {
+        return each_passes(graph, kept, n, edges);
+    }
+    if !passes(graph, kept, n, edges[0]) {
+        return false;
+    }
+    passes(graph, kept, n, edges[1])
 }
 
 /// Whether each edge of a point does: most points have one.
@@ -97,7 +111,7 @@ fn all_pass(graph: &Graph, kept: &Kept, n: u32) -> bool
 {
     match graph.only_edge(n) {
         Some(edge) => passes(graph, kept, n, edge),
-        None => each_passes(graph, kept, n),
+        None => several_pass(graph, kept, n),
     }
 }
 
@@ -274,7 +288,7 @@ pub(crate) fn is_quiet(graph: &Graph, kept: &Kept, n: u32) -> bool
     }
     let edges = graph.successors(n);
     if edges.len() != 1 {
-        return is_still(graph.insn(n).op) && each_passes(graph, kept, n);
+        return is_still(graph.insn(n).op) && several_pass(graph, kept, n);
     }
     if is_still(graph.insn(n).op) {
         return passes(graph, kept, n, edges[0]);

@@ -11,4 +11,4 @@ returns-in-Some c passes p tells =
     (single (Passes p c.args.kept.now c.args.n) (c.in-Some.edge ∷ []) c.in-Some.edge refl (c.passes.ensures passes p tells))
 
 pub returns-in-None : goal.returns-in-None
-returns-in-None c pass p tells = c.each_passes.ensures pass p tells
+returns-in-None c pass p tells = c.several_pass.ensures pass p tells

@@ -11,7 +11,7 @@ pub returns-then-is_still : goal.returns-then-is_still
 returns-then-is_still c passes p tells =
     let allowed : c.is_allowed.result ≡ true = (let h = c.if-not-is_allowed.false in grind arith) in
     let neutral : is_neutral (p.insn c.args.n).op ≡ true = ap (λ (i : Insn). is_neutral i.op) (sym (c.insn.ensures p tells)) ∙ c.is_still.ensures c.if-is_still.true in
-    quiet_where_still p c.args.kept.now c.args.n neutral (c.is_allowed.ensures.some allowed) (c.is_allowed.ensures.near allowed) (c.is_allowed.ensures.fit allowed) (c.is_allowed.ensures.stays allowed p tells) (c.is_allowed.ensures.unmarked allowed p tells) (c.each_passes.ensures passes p tells)
+    quiet_where_still p c.args.kept.now c.args.n neutral (c.is_allowed.ensures.some allowed) (c.is_allowed.ensures.near allowed) (c.is_allowed.ensures.fit allowed) (c.is_allowed.ensures.stays allowed p tells) (c.is_allowed.ensures.unmarked allowed p tells) (c.several_pass.ensures passes p tells)
 
 pub returns-then-is_still-2 : goal.returns-then-is_still-2
 returns-then-is_still-2 c passes p tells =
