@@ -57,7 +57,7 @@ pub record IsQuiet (p : Program) (states : List (Option State)) (q : ℕ) : Type
   pub unmarked : is_unmarked (p.marks q) ≡ true
   pub leads : (s : State) → at states q ≡ Some s → All (Leads p states q s) (edges_of p q)
 
--- from the point control goes to no point, and where that is out of the function, the state that it keeps allows it
+-- the point has no edge, and where control leaves its function there, the state that it keeps allows that
 pub record IsQuietExit (p : Program) (states : List (Option State)) (q : ℕ) : Type 0 where
   pub op : ((p.insn q).op ≡ Ret) ⊎ (is_neutral (p.insn q).op ≡ true)
   pub some : IsSome (at states q)
