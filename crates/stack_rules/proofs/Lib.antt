@@ -5,6 +5,7 @@ pub mod AllWarnings
 pub mod ByState
 pub mod WarningOrder
 pub mod QuietPoints
+pub mod QuietExits
 pub mod Order
 pub mod Finding
 pub mod Permuted

@@ -1,6 +1,7 @@
 -- At a quiet point no rule is broken.
 use Rattle.std.proofs.Common.{◌≡◌, ◌≢◌, ℕ, Bool, true, false, ◌<◌, All, ap, get_or, length, arith, Option, Some, None, List, [], ◌∷◌, inl, inr, Ok, refl, sym, ◌∙◌, subst}
 use Rattle.std.specs.Prelude.{IsSome, is_some, option_to_list}
+use Rattle.std.proofs.lemmas.Bool.{cases_lt}
 use Rattle.std.proofs.lemmas.List.{get_or_default}
 use Rattle.std.proofs.lemmas.List.Elements.{All-contains}
 use Rattle.ot_base.specs.declared.place.Place.{Place}
@@ -38,7 +39,7 @@ brings_only s t u op kind brought along is b =
     let one : option_to_list (Some t) ≡ u ∷ [] = subst (λ (o : Option State). option_to_list o ≡ u ∷ []) b (is ∙ along) in
     let same : t ≡ u = cc in same
 
-unmarked_warns_none : (place : Place) (s : State) (owner : Option ℕ) (marks : Marks) (w : Warning) → is_unmarked marks ≡ true → MarksWarn place s owner marks w → ⊥
+pub unmarked_warns_none : (place : Place) (s : State) (owner : Option ℕ) (marks : Marks) (w : Warning) → is_unmarked marks ≡ true → MarksWarn place s owner marks w → ⊥
 unmarked_warns_none place s owner marks w h (inl (e, k)) = grind arith
 unmarked_warns_none place s owner marks w h (inr (inl ((e, f), k))) = grind arith
 unmarked_warns_none place s owner marks w h (inr (inr (inl (e, k)))) = grind arith
@@ -51,12 +52,12 @@ no_role place op s leaves (JumpOut sym) w h k = let z : ⊥ = cc in z
 no_role place op s leaves JumpAny w h k = let z : ⊥ = cc in z
 no_role place op s leaves _ w h k = k
 
-no_operation : (place : Place) (op : Op) (s t : State) (before : Bool) (w : Warning) → is_exit op ≡ false → move s op ≡ Ok t → OperationWarns place op s before w → ⊥
+pub no_operation : (place : Place) (op : Op) (s t : State) (before : Bool) (w : Warning) → is_exit op ≡ false → move s op ≡ Ok t → OperationWarns place op s before w → ⊥
 no_operation place op s t before w h m (inl (rule, (e, f), k)) = let z : ⊥ = cc in z
 no_operation place op s t before w h m (inr (inl ((e, b), k))) = let n : is_exit Switch ≡ false = subst (λ (o : Op). is_exit o ≡ false) e h in let z : ⊥ = cc in z
 no_operation place op s t before w h m (inr (inr ((e, b), k))) = let n : is_exit Iret ≡ false = subst (λ (o : Op). is_exit o ≡ false) e h in let z : ⊥ = cc in z
 
-no_row : (place : Place) (s : State) (w : Warning) → unfit_offset s ≡ None → RowWarns place s w → ⊥
+pub no_row : (place : Place) (s : State) (w : Warning) → unfit_offset s ≡ None → RowWarns place s w → ⊥
 no_row place s w h (a, e, k) = let z : ⊥ = cc in z
 
 moved_along : (s t : State) (op : Op) → move s op ≡ Ok t → brought_along s op Next ≡ t ∷ []
@@ -68,6 +69,19 @@ single P edges d one h = λ i e l.
     let first : 0 < length edges = omega (arith, one) in
     let same : 0 ≡ i = omega (arith, one, l) in
     subst P (get_or_default edges 0 d e first ∙ ap (λ (k : ℕ). get_or edges k e) same) h
+
+-- and what holds of two edges
+pub pair : (P : Edge → Type 0) (edges : List Edge) (d : Edge) → length edges ≡ 2 → P (get_or edges 0 d) → P (get_or edges 1 d) → All P edges
+pair P edges d two one other = λ i e l. elim (cases_lt i 1) [
+  | inl low ↦
+      let first : 0 < length edges = omega (arith, two) in
+      let same : 0 ≡ i = omega (arith, low) in
+      subst P (get_or_default edges 0 d e first ∙ ap (λ (k : ℕ). get_or edges k e) same) one
+  | inr high ↦
+      let second : 1 < length edges = omega (arith, two) in
+      let same : 1 ≡ i = omega (arith, two, l, high) in
+      subst P (get_or_default edges 1 d e second ∙ ap (λ (k : ℕ). get_or edges k e) same) other
+]
 
 -- an operation that leaves each state as it is is no way out
 pub neutral_stays : (op : Op) → is_neutral op ≡ true → is_exit op ≡ false

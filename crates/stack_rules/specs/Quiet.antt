@@ -1,20 +1,22 @@
 -- Points at which no rule is broken, as their operation moves the state, and the moved one is kept where control goes.
-use Rattle.std.specs.Prelude.{◌≡◌, ◌≢◌, ℕ, Bool, true, false, not, ◌&&◌, List, [], ◌∷◌, Option, Some, None, Ok, IsSome, IsTrue, All}
+use Rattle.std.specs.Prelude.{◌≡◌, ◌≢◌, ◌⊎◌, ℕ, Bool, true, false, not, ◌&&◌, List, [], ◌∷◌, Option, Some, None, Ok, IsSome, IsTrue, All}
 use Rattle.std.specs.BTreeSet.{BTreeSet, contains}
 use Rattle.std.specs.Ordering.{nat_cmp}
 use Rattle.operation_defs.specs.declared.op.Op.{Op}
-use Rattle.operation_defs.specs.declared.op.Op.TheVariants.{Switch, Iret}
+use Rattle.operation_defs.specs.declared.op.Op.TheVariants.{Switch, Iret, Ret}
 use Rattle.machine_defs.specs.declared.flow.Edge.{Edge}
 use Rattle.machine_defs.specs.declared.flow.EdgeKind.TheVariants.{Next, Sibling}
 use Rattle.machine_defs.specs.declared.flow.Marks.{Marks}
 use Rattle.machine_defs.specs.declared.flow.Role.{Role}
 use Rattle.machine_defs.specs.declared.flow.Role.TheVariants.{Return, JumpOut, JumpAny}
 use Rattle.state_defs.specs.declared.state.State.{State}
-use Rattle.state_defs.specs.Move.{move}
+use Rattle.state_defs.specs.Move.{has_near_numbers, move}
 use Rattle.state_defs.specs.Row.{unfit_offset}
+use Rattle.state_defs.specs.Rules.{return_rule, sibling_rule}
 use Rattle.machine_defs.specs.Program.{Program}
 use Rattle.machine_defs.specs.Kept.{brought_along, edges_of}
 use Rattle.kept_states.specs.LevelStates.{at}
+use Rattle.kept_states.specs.Neutral.{is_neutral}
 
 -- whether the operation is a way out that a state has to allow
 abbrev pub is_exit : Op → Bool
@@ -54,3 +56,14 @@ pub record IsQuiet (p : Program) (states : List (Option State)) (q : ℕ) : Type
   pub stays : stays (p.role q) ≡ true
   pub unmarked : is_unmarked (p.marks q) ≡ true
   pub leads : (s : State) → at states q ≡ Some s → All (Leads p states q s) (edges_of p q)
+
+-- the point has no edge, and where control leaves its function there, the state that it keeps allows that
+pub record IsQuietExit (p : Program) (states : List (Option State)) (q : ℕ) : Type 0 where
+  pub op : ((p.insn q).op ≡ Ret) ⊎ (is_neutral (p.insn q).op ≡ true)
+  pub some : IsSome (at states q)
+  pub near : (s : State) → at states q ≡ Some s → has_near_numbers s ≡ true
+  pub fit : (s : State) → at states q ≡ Some s → unfit_offset s ≡ None
+  pub returns : (s : State) → at states q ≡ Some s → return_rule s ≡ None
+  pub jumps : (s : State) → at states q ≡ Some s → sibling_rule s ≡ None
+  pub unmarked : is_unmarked (p.marks q) ≡ true
+  pub edges : edges_of p q ≡ []

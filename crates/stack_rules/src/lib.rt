@@ -13,6 +13,7 @@ mod numbers;
 mod offsets;
 mod point_rules;
 mod quiet;
+mod quiet_exits;
 mod site_check;
 mod site_index;
 mod site_points;

@@ -18,6 +18,7 @@ use crate::exits::{push_marks, push_operation, push_role};
 use crate::listing::{bare_warning, is_restore, push};
 use crate::numbers::push_row;
 use crate::quiet::{is_quiet, is_quiet_jump};
+use crate::quiet_exits::is_quiet_exit;
 use crate::ways::{is_before_hint, may_leave};
 use kept_states::Kept;
 use ot_base::rules::{FUNCTION_WITHOUT_SIZE, RESTORE_WITHOUT_SAVE};
@@ -116,6 +117,9 @@ fn push_point(
     ensures passing { OnOk result ((p : Program) → Tells p graph.now.parts → ArePassing p kept.now passing.new) }
     ensures warnings { OnOk result ((p : Program) → Checks p graph.now.parts kept.now → Gains into.old.items into.new.items (PointWarns p kept.now n)) }
 {
+    if is_quiet_exit(graph, kept, n) {
+        return Ok(());
+    }
     if is_quiet_jump(graph, kept, passing, n)? {
         return Ok(());
     }
@@ -135,19 +139,32 @@ fn tells_nothing(graph: &Graph, kept: &Kept, n: u32) -> bool
     is_quiet(graph, kept, n)
 }
 
-/// The first point from one on of which something may be told, if there is one.
+/// The first point from one on of which something may be told. Where there is none, how many points there are.
 #[inline(never)]
-fn next_to_tell(graph: &Graph, kept: &Kept, from: u32) -> Option<u32>
-    requires { length kept.now ≡ length graph.now.parts.points.items }
-    ensures within { IfSome result (λ n. (from ≤ n) × (n < length graph.now.parts.points.items)) }
-    ensures nothing { (p : Program) → Tells p graph.now.parts → (k : ℕ) → from ≤ k → MatchOption result (k < length graph.now.parts.points.items) (λ n. k < n) → (w : WarningValue) → PointWarns p kept.now k w → ⊥ }
+fn skip_quiet(graph: &Graph, kept: &Kept, from: u32) -> u32
+    requires points { length kept.now ≡ length graph.now.parts.points.items }
+    requires from { from ≤ length graph.now.parts.points.items }
+    ensures from { from ≤ result }
+    ensures within { result ≤ length graph.now.parts.points.items }
+    ensures nothing { (p : Program) → Tells p graph.now.parts → (k : ℕ) → from ≤ k → k < result → (w : WarningValue) → PointWarns p kept.now k w → ⊥ }
 {
     for n in from..graph.points() {
         if !tells_nothing(graph, kept, n) {
-            return Some(n);
+            return n;
         }
     }
-    None
+    graph.points()
+}
+
+/// The first point from one on of which something may be told, if there is one.
+fn next_to_tell(graph: &Graph, kept: &Kept, from: u32) -> Option<u32>
+    requires points { length kept.now ≡ length graph.now.parts.points.items }
+    requires from { from ≤ length graph.now.parts.points.items }
+    ensures within { IfSome result (λ n. (from ≤ n) × (n < length graph.now.parts.points.items)) }
+    ensures nothing { (p : Program) → Tells p graph.now.parts → (k : ℕ) → from ≤ k → MatchOption result (k < length graph.now.parts.points.items) (λ n. k < n) → (w : WarningValue) → PointWarns p kept.now k w → ⊥ }
+{
+    let n = skip_quiet(graph, kept, from);
+    if n < graph.points() { Some(n) } else { None }
 }
 
 /// Rule 17: functions at these places have no size.

@@ -13,7 +13,7 @@ ghost use Rattle.stack_rules.specs.Quiet.{ArePassing, IsQuiet, Leads, Passes, is
 
 use crate::arrivals::falls_out;
 use crate::numbers::is_same;
-use kept_states::{Kept, is_neutral};
+use kept_states::Kept;
 use machine_defs::{Edge, EdgeKind, Marks, Role};
 use operation_defs::Op;
 use ot_base::NoMemory;
@@ -30,7 +30,7 @@ fn is_exit(op: Op) -> bool
 }
 
 /// Whether nothing is wrong with where control goes, and no relocation changes a number of the stack.
-fn is_unmarked(marks: Marks) -> bool
+pub(crate) fn is_unmarked(marks: Marks) -> bool
     ensures { result ≡ is_unmarked_by marks }
 {
     !(marks.bad | marks.past_end | marks.into_site | marks.into_function | marks.relocated)
@@ -69,7 +69,7 @@ fn passes(graph: &Graph, kept: &Kept, n: u32, edge: Edge) -> bool
     !is_sibling(edge.kind) && !falls_out(graph, n, edge) && kept.are_alike(edge.to, n)
 }
 
-/// Whether each of these edges of a point does.
+/// Whether each of these edges of a point passes.
 #[inline(never)]
 fn each_passes(graph: &Graph, kept: &Kept, n: u32, edges: &[Edge]) -> bool
     requires points { length kept.now ≡ length graph.now.parts.points.items }
@@ -85,6 +85,23 @@ fn each_passes(graph: &Graph, kept: &Kept, n: u32, edges: &[Edge]) -> bool
     true
 }
 
+/// Whether each edge of a point passes. Most points that don't have one have two.
+#[inline(never)]
+fn several_pass(graph: &Graph, kept: &Kept, n: u32) -> bool
+    requires points { length kept.now ≡ length graph.now.parts.points.items }
+    requires point { n < length graph.now.parts.points.items }
+    ensures { IsTrue result → (p : Program) → Tells p graph.now.parts → All (Passes p kept.now n) (edges_of p n) }
+{
+    let edges = graph.successors(n);
+    if edges.len() != 2 {
+        return each_passes(graph, kept, n, edges);
+    }
+    if !passes(graph, kept, n, edges[0]) {
+        return false;
+    }
+    passes(graph, kept, n, edges[1])
+}
+
 /// Whether each edge of a point does: most points have one.
 #[inline(always)]
 fn all_pass(graph: &Graph, kept: &Kept, n: u32) -> bool
@@ -94,7 +111,7 @@ fn all_pass(graph: &Graph, kept: &Kept, n: u32) -> bool
 {
     match graph.only_edge(n) {
         Some(edge) => passes(graph, kept, n, edge),
-        None => each_passes(graph, kept, n, graph.successors(n)),
+        None => several_pass(graph, kept, n),
     }
 }
 
@@ -157,45 +174,76 @@ fn stays_next(graph: &Graph, n: u32, edge: Edge) -> bool
     is_next(edge.kind) && graph.have_one_owner(edge.to, n)
 }
 
-/// Whether an operation moves the state of a point to that of another.
-fn moves_to(kept: &Kept, op: Op, n: u32, to: u32) -> bool
-    requires from { n < length kept.now }
-    requires to { to < length kept.now }
-    ensures { IsTrue result → (s : State) → at kept.now n ≡ Some s → (t : State) × (move s op ≡ Ok t) × (at kept.now to ≡ Some t) }
+/// Whether the operation of a point moves its state to that of another, as a step tells.
+#[inline(never)]
+fn steps_to(graph: &Graph, kept: &Kept, n: u32, to: u32) -> bool
+    requires points { length kept.now ≡ length graph.now.parts.points.items }
+    requires from { n < length graph.now.parts.points.items }
+    requires to { to < length graph.now.parts.points.items }
+    ensures { IsTrue result → (p : Program) → Tells p graph.now.parts → (s : State) → at kept.now n ≡ Some s → (t : State) × (move s (p.insn n).op ≡ Ok t) × (at kept.now to ≡ Some t) }
 {
-    if kept.moves_to(op, n, to) {
-        return true;
-    }
-    match (kept.state(n), kept.state(to)) {
-        (Some(before), Some(after)) => match step(before, op) {
-            Ok(moved) => is_same(moved, after),
-            Err(_) => false,
-        },
-        (Some(_) | None, _) => false,
+    let Some(before) = kept.state(n) else {
+        return false;
+    };
+    let Ok(moved) = step(before, graph.insn(n).op) else {
+        return false;
+    };
+    match kept.state(to) {
+        Some(after) => is_same(moved, after),
+        None => false,
     }
 }
 
-/// Whether the operation of a point is no way out, and moves its state to that of the next instruction, of the same owner, to
-/// which alone control goes.
+/// Whether the operation of a point moves its state to that of another.
 #[inline(never)]
-fn moves_on(graph: &Graph, kept: &Kept, n: u32) -> bool
+fn moves_to(graph: &Graph, kept: &Kept, n: u32, to: u32) -> bool
     requires points { length kept.now ≡ length graph.now.parts.points.items }
-    requires point { n < length graph.now.parts.points.items }
+    requires from { n < length graph.now.parts.points.items }
+    requires to { to < length graph.now.parts.points.items }
+    ensures { IsTrue result → (p : Program) → Tells p graph.now.parts → (s : State) → at kept.now n ≡ Some s → (t : State) × (move s (p.insn n).op ≡ Ok t) × (at kept.now to ≡ Some t) }
+{
+    kept.moves_to(graph.insn(n).op, n, to) || steps_to(graph, kept, n, to)
+}
+
+/// Whether the operation of a point is no way out, and moves its state to that of the next instruction, of the same owner, to
+/// which this edge leads.
+#[inline(always)]
+fn moves_along(graph: &Graph, kept: &Kept, n: u32, edge: Edge) -> bool
+    requires points { length kept.now ≡ length graph.now.parts.points.items }
+    requires from { n < length graph.now.parts.points.items }
+    requires to { edge.to < length graph.now.parts.points.items }
     ensures exit { IsTrue result → (p : Program) → Tells p graph.now.parts → is_exit_op (p.insn n).op ≡ false }
     ensures moves { IsTrue result → (p : Program) → Tells p graph.now.parts → (s : State) → at kept.now n ≡ Some s → (t : State) × (move s (p.insn n).op ≡ Ok t) }
-    ensures leads { IsTrue result → (p : Program) → Tells p graph.now.parts → (s : State) → at kept.now n ≡ Some s → All (Leads p kept.now n s) (edges_of p n) }
+    ensures leads { IsTrue result → (p : Program) → Tells p graph.now.parts → (s : State) → at kept.now n ≡ Some s → Leads p kept.now n s edge }
 {
-    let Some(edge) = graph.only_edge(n) else {
-        return false;
-    };
     if !stays_next(graph, n, edge) {
         return false;
     }
-    let op = graph.insn(n).op;
-    if is_exit(op) {
+    if is_exit(graph.insn(n).op) {
         return false;
     }
-    moves_to(kept, op, n, edge.to)
+    moves_to(graph, kept, n, edge.to)
+}
+
+/// Whether an operation leaves each state as it is, and is no indirect jump.
+#[inline(always)]
+pub(crate) fn is_still(op: Op) -> bool
+    ensures { IsTrue result → is_neutral_op op ≡ true }
+{
+    matches!(
+        op,
+        Op::Plain
+            | Op::Nop
+            | Op::Endbr
+            | Op::Call { .. }
+            | Op::CallInd
+            | Op::Jmp { .. }
+            | Op::Jcc { .. }
+            | Op::Ud2
+            | Op::Int3
+            | Op::Stac
+            | Op::Clac
+    )
 }
 
 /// Whether an operation is an indirect jump.
@@ -238,14 +286,14 @@ pub(crate) fn is_quiet(graph: &Graph, kept: &Kept, n: u32) -> bool
     if !is_allowed(graph, kept, n) {
         return false;
     }
-    let op = graph.insn(n).op;
-    if !is_neutral(op) {
-        return moves_on(graph, kept, n);
+    let edges = graph.successors(n);
+    if edges.len() != 1 {
+        return is_still(graph.insn(n).op) && several_pass(graph, kept, n);
     }
-    if is_indirect_jump(op) {
-        return false;
+    if is_still(graph.insn(n).op) {
+        return passes(graph, kept, n, edges[0]);
     }
-    all_pass(graph, kept, n)
+    moves_along(graph, kept, n, edges[0])
 }
 
 /// Whether a point is an indirect jump at which it is quickly seen that no rule is broken. Points are known all of whose

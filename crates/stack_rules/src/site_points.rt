@@ -124,18 +124,43 @@ fn push_start(
     Ok(())
 }
 
-/// The first point from one on that doesn't run in a gap, if there is one.
+/// Whether a point runs in a gap. Most points run where they stand.
+#[inline(always)]
+fn is_inside(graph: &Graph, gap: Gap, n: u32) -> bool
+    requires { n < length graph.now.parts.points.items }
+    ensures { (p : Program) → Tells p graph.now.parts → result ≡ is_in_gap gap (p.address n) }
+{
+    if graph.is_usual(n) {
+        gap.has(graph.place(n))
+    } else {
+        gap.has(graph.address(n))
+    }
+}
+
+/// The first point from one on that doesn't run in a gap. Where there is none, how many points there are.
 #[inline(never)]
+fn skip_gap(graph: &Graph, gap: Gap, from: u32) -> u32
+    requires { from ≤ length graph.now.parts.points.items }
+    ensures from { from ≤ result }
+    ensures within { result ≤ length graph.now.parts.points.items }
+    ensures inside { (p : Program) → Tells p graph.now.parts → (k : ℕ) → from ≤ k → k < result → is_in_gap gap (p.address k) ≡ true }
+{
+    for n in from..graph.points() {
+        if !is_inside(graph, gap, n) {
+            return n;
+        }
+    }
+    graph.points()
+}
+
+/// The first point from one on that doesn't run in a gap, if there is one.
 fn next_outside(graph: &Graph, gap: Gap, from: u32) -> Option<u32>
+    requires { from ≤ length graph.now.parts.points.items }
     ensures within { IfSome result (λ n. (from ≤ n) × (n < length graph.now.parts.points.items)) }
     ensures inside { (p : Program) → Tells p graph.now.parts → (k : ℕ) → from ≤ k → MatchOption result (k < length graph.now.parts.points.items) (λ n. k < n) → is_in_gap gap (p.address k) ≡ true }
 {
-    for n in from..graph.points() {
-        if !gap.has(graph.address(n)) {
-            return Some(n);
-        }
-    }
-    None
+    let n = skip_gap(graph, gap, from);
+    if n < graph.points() { Some(n) } else { None }
 }
 
 /// The kept points that run in these sites, by their numbers. Adds the sites at whose starts plain ones of them run.

@@ -1,4 +1,4 @@
-use Rattle.std.proofs.Common.{◌≡◌, ◌≤◌, ◌-◌, ℕ, length}
+use Rattle.std.proofs.Common.{◌≤◌, ◌-◌, length}
 use Rattle.machine_defs.specs.Program.{Program}
 use Rattle.program_graph.specs.Tells.{Tells}
 use Rattle.stack_rules.specs.Checks.{Checks}
