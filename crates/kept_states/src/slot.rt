@@ -137,8 +137,9 @@ impl Slot {
     pub(crate) fn is_alike(self, other: Slot) -> bool
         ensures { IsTrue result → (wide other_wide : NumbersValue) → state_in self wide ≡ state_in other other_wide }
     {
-        !(self.is_wide | other.is_wide)
+        !self.is_wide
             && (self.shape == other.shape)
+                & (self.is_wide == other.is_wide)
                 & (self.depth == other.depth)
                 & (self.fp == other.fp)
                 & (self.home == other.home)
