@@ -43,8 +43,18 @@ fn advise(rt: &HostRuntime, alloc: Global, words: &[String], status: Status, las
     }
 }
 
+/// The size in bytes of the greatest blocks that the allocator is to keep once they are let go.
+const KEPT_BLOCK: usize = 31 << 20;
+
+/// Takes a block of that size, and lets it go untouched. Blocks up to the size of one that was let go are kept by glibc's allocator
+/// for later ones; greater ones it maps, and unmaps at once, so that their pages would be mapped and cleared for each list anew.
+fn keep_blocks(alloc: Global) {
+    let _ = Vec::<u8>::with_capacity(alloc, KEPT_BLOCK);
+}
+
 fn main(rt: HostRuntime) -> ExitCode {
     let alloc = rt.alloc();
+    keep_blocks(alloc);
     let words = match words(&rt, alloc) {
         Ok(words) => words,
         Err(error) if error.kind() == io::ErrorKind::OutOfMemory => {
