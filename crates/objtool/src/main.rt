@@ -12,7 +12,7 @@ use objtool_cli::{Status, run};
 use ot_files::{StdFiles, StdSink};
 use std::alloc::Global;
 use std::process::ExitCode;
-use std::{env, io};
+use std::{env, fs, io};
 
 /// The words behind the program's name.
 fn words(rt: &HostRuntime, alloc: Global) -> io::Result<Vec<String>> {
@@ -43,18 +43,34 @@ fn advise(rt: &HostRuntime, alloc: Global, words: &[String], status: Status, las
     }
 }
 
+/// The size in bytes of a large file.
+const LARGE_FILE: u64 = 2 << 20;
+
 /// The size in bytes of the greatest blocks that the allocator is to keep once they are let go.
 const KEPT_BLOCK: usize = 31 << 20;
 
-/// Takes a block of that size, and lets it go untouched. Blocks up to the size of one that was let go are kept by glibc's allocator
-/// for later ones; greater ones it maps, and unmaps at once, so that their pages would be mapped and cleared for each list anew.
-fn keep_blocks(alloc: Global) {
-    let _ = Vec::<u8>::with_capacity(alloc, KEPT_BLOCK);
+/// Whether a word names a large file.
+fn names_large_file(rt: &HostRuntime, word: &str) -> bool {
+    match fs::metadata(rt, word) {
+        Ok(said) => said.len() >= LARGE_FILE,
+        Err(_) => false,
+    }
+}
+
+/// Where a word names a large file, takes a block of that size, and lets it go untouched. Blocks up to the size of one that was
+/// let go are kept by glibc's allocator for later ones; greater ones it maps, and unmaps at once, so that their pages would be
+/// mapped and cleared for each list anew.
+fn keep_blocks(rt: &HostRuntime, alloc: Global, words: &[String]) {
+    for word in words {
+        if names_large_file(rt, word) {
+            let _ = Vec::<u8>::with_capacity(alloc, KEPT_BLOCK);
+            return;
+        }
+    }
 }
 
 fn main(rt: HostRuntime) -> ExitCode {
     let alloc = rt.alloc();
-    keep_blocks(alloc);
     let words = match words(&rt, alloc) {
         Ok(words) => words,
         Err(error) if error.kind() == io::ErrorKind::OutOfMemory => {
@@ -63,6 +79,7 @@ fn main(rt: HostRuntime) -> ExitCode {
         // A word that is no text is no word of a command.
         Err(_) => Vec::new(alloc),
     };
+    keep_blocks(&rt, alloc, &words);
     let mut files = StdFiles::new(alloc, &rt);
     let mut out = LastLine::new(alloc, StdSink::new(&rt));
     let status = run(alloc, &words, &mut files, &mut out);
