@@ -1,5 +1,5 @@
-//! The commands over an object's code that make no table: `entry` checks entry code, `sites` adds lists of its returns and calls, and
-//! `show` prints the program as the checker sees it.
+//! The commands over an object's code that make no table: `entry` checks the entry rules of all code, `sites` adds lists of its returns
+//! and calls, and `show` prints the program as the checker sees it.
 #![tactic(auto)]
 
 mod entry_answering;

@@ -1,7 +1,7 @@
 //! The commands, over files and an output that are handed in: `run` takes the steps of each in their order, with the lines that are
 //! printed, what is written, and the status. `check` and `demo` make tables, and `check` tells behind a warning where it is and how control
 //! came there; others add to an object what a table or a list tells of its code, or read it back (`sites` and `list`, `cfi` and `cfa`,
-//! `merge` and `find`), check entry code (`entry`), or print the program as the checker sees it (`show`).
+//! `merge` and `find`), check the entry rules (`entry`), or print the program as the checker sees it (`show`).
 #![tactic(auto)]
 
 mod check;

@@ -17,7 +17,8 @@ use Rattle.x86_decode.proofs.Languages.{IsBytes}
 use Rattle.x86_text.specs.declared.known.Known.{Known}
 use Rattle.x86_text.specs.declared.known.LongSpelling.{LongSpelling}
 use Rattle.x86_text.specs.declared.known.Spelling.{Spelling}
-use Rattle.x86_text.specs.Known.{long_bytes, upper_bytes, AreSpellings, IsKindInFront, IsLongSpelling, IsSpelling, SpellsKind}
+use Rattle.x86_text.specs.Code.{may_use_table}
+use Rattle.x86_text.specs.Known.{long_bytes, upper_bytes, AreSpellings, IsFoundInFront, IsKindInFront, IsLongSpelling, IsSpelling, SpellsKind, SpellsShort}
 
 module _ (bytes : List ℕ) (off : ℕ) (each : (k : ℕ) → get_or bytes k 0 < 256) where
   still_bytes : IsBytes (drop off bytes)
@@ -112,14 +113,21 @@ module _ (map : Map) (kinds : List Insn) (bytes : List ℕ) (first front len : �
   same_bytes = above ∙ ap (take len) is ∙ take-take len 8 bytes few
 
   -- a known one stands in front
-  pub stands_known : (s : Spelling) → s.front ≡ front → s.len ≡ len → 0 < len → IsSpelling map kinds s → IsKindInFront map kinds bytes s.number
+  pub stands_known : (s : Spelling) → s.front ≡ front → s.len ≡ len → 0 < len → IsSpelling map kinds s → IsFoundInFront map kinds bytes (record { number = s.number; len = len; may_jump = s.may_jump })
+  unfolding in_front
   stands_known s same_front same_len some known =
       let same : upper_bytes s.front s.len ≡ take s.len bytes = ap (λ f. upper_bytes f s.len) same_front ∙ ap (upper_bytes front) same_len ∙ same_bytes ∙ ap (λ n. take n bytes) (sym same_len) in
-      in_front map kinds bytes (upper_bytes s.front s.len) s.len s.number (omega arith) (omega arith) same (known (omega arith))
+      let short : SpellsShort map kinds (upper_bytes s.front s.len) s.len s.number s.may_jump = known (omega arith) in
+      record {
+        kind = in_front map kinds bytes (upper_bytes s.front s.len) s.len s.number (omega arith) (omega arith) same short.spelled;
+        long = short.spelled.long ∙ same_len;
+        jumps = short.jumps;
+      }
 
   -- what stands in front is known from now on
-  pub known_now : (insn : Insn) (number : ℕ) → slice_get kinds number ≡ Some insn → insn.len ≡ len → StandsInFront map bytes insn → IsSpelling map kinds (record { front = front; number = number; len = len })
-  known_now insn number at same_len stands some = spelled_now map kinds bytes (upper_bytes front len) len number insn same_bytes at same_len stands
+  pub known_now : (insn : Insn) (number : ℕ) → slice_get kinds number ≡ Some insn → insn.len ≡ len → StandsInFront map bytes insn → IsSpelling map kinds (record { front = front; number = number; len = len; may_jump = may_use_table insn.op })
+  unfolding spelled_now
+  known_now insn number at same_len stands some = record { spelled = spelled_now map kinds bytes (upper_bytes front len) len number insn same_bytes at same_len stands; jumps = refl }
 
 -- one that is looked up is among those that are known
 pub looked_up : (map : Map) (kinds : List Insn) (spellings now : List Spelling) (place : ℕ) (s : Spelling) → now ≡ spellings → All (IsSpelling map kinds) spellings → place < length now → s ≡ get_or now place s → IsSpelling map kinds s
@@ -159,7 +167,8 @@ module _ (kinds more : List Insn) (kept : (k : ℕ) (kind : Insn) → slice_get 
 
   -- what is known stays true
   pub still_spellings : (known : Known) → AreSpellings kinds known → AreSpellings more known
+  unfolding still_spells
   still_spellings known are = record {
-    short = λ k d within some. still_spells known.map _ _ _ (are.short k d within some);
+    short = λ k d within some. record { spelled = still_spells known.map _ _ _ (are.short k d within some).spelled; jumps = (are.short k d within some).jumps };
     long = λ k d within some. still_spells known.map _ _ _ (are.long k d within some);
   }

@@ -1,28 +1,18 @@
 -- What is known while a body is read, and what follows at its end.
-use Rattle.std.proofs.Common.{◌≡◌, ℕ, ◌+◌, ◌-◌, ◌<◌, ◌≤◌, ◌^◌, List, [], ◌∷◌, ◌++◌, length, map, drop, get_or, Ok, All, arith, refl, sym, ap, ◌∙◌, subst, append_assoc, append-nil, length-append, length-drop}
+use Rattle.std.proofs.Common.{◌≡◌, ℕ, ◌+◌, ◌-◌, ◌<◌, ◌≤◌, ◌^◌, List, [], ◌∷◌, ◌++◌, length, map, drop, get_or, Ok, arith, refl, sym, ap, ◌∙◌, subst, append_assoc, append-nil, length-append, length-drop}
 use Rattle.std.specs.Prelude.{filter}
-use Rattle.std.specs.List.Sorted.{IsNonDecreasingBy}
 use Rattle.std.proofs.lemmas.List.Elements.{All-nil, All-push, filter-append}
 use Rattle.std.proofs.lemmas.List.Sorted.{IsNonDecreasingBy-short, IsNonDecreasingBy-push}
 use Rattle.std.proofs.lemmas.List.{drop-drop, drop_all, map-append}
 use Rattle.operation_defs.specs.declared.insn.Insn.{Insn}
 use Rattle.x86_decode.specs.Decoding.{StandsInFront, decoded}
+use Rattle.x86_text.specs.declared.known.Found.{Found}
 use Rattle.x86_text.specs.declared.placed.PlacedInsn.{PlacedInsn}
-use Rattle.x86_text.specs.Code.{Body, IsBoundary, start, behind, code_from, code_of, insns_of, may_use_table, LeadsTo}
+use Rattle.x86_text.specs.Code.{Body, start, behind, code_from, code_of, insns_of, may_use_table, LeadsTo}
 use Rattle.x86_text.specs.Listed.{StandsIn, IsListing, IsKept}
+use Rattle.x86_text.specs.ReadSoFar.{IsReadTo, IsKeptTo, IsAdded}
 use Rattle.x86_text.proofs.CodeLemmas.{code_from_more}
-
--- these are the instructions of the body up to an offset
-pub record IsReadTo (body : Body) (code : List PlacedInsn) (off : ℕ) : Type 0 where
-  pub within : off ≤ length body.bytes
-  pub boundary : off < length body.bytes → IsBoundary body off
-  pub same : code ++ code_from body.map 0 off (drop off body.bytes) ≡ code_of body
-  pub each : All (StandsIn body) code
-  pub leads : LeadsTo 0 code off
-  pub some : All (λ p. 0 < p.insn.len) code
-  pub ascending : IsNonDecreasingBy (λ p. p.off) code
-  pub below : All (λ p. p.off < off) code
-  pub few : length code ≤ off
+use Rattle.x86_text.proofs.KnownLemmas.{stands_decoded, decoded_stands, decoded_only, decoded_lengths}
 
 LeadsTo-push : (from : ℕ) (code : List PlacedInsn) (p : PlacedInsn) → LeadsTo from code p.off → LeadsTo from (code ++ p ∷ []) (p.off + p.insn.len)
 LeadsTo-push from [] p at = (sym at, ap (λ o. o + p.insn.len) at)
@@ -84,14 +74,6 @@ read_all body code off read end small =
       few = omega arith;
     }
 
--- what is kept of them, and the list to which they are added
-pub record IsKeptTo (body : Body) (offsets : List ℕ) (jumps : List PlacedInsn) (before insns : List Insn) (off : ℕ) : Type 0 where
-  pub code : List PlacedInsn
-  pub read : IsReadTo body code off
-  pub all_offsets : offsets ≡ map (λ p. p.off) code
-  pub all_jumps : jumps ≡ filter (λ p. may_use_table p.insn.op) code
-  pub all_insns : insns ≡ before ++ map (λ p. p.insn) code
-
 pub kept_nothing : (body : Body) (offsets : List ℕ) (jumps : List PlacedInsn) (before : List Insn) → offsets ≡ [] → jumps ≡ [] → IsKeptTo body offsets jumps before before 0
 kept_nothing body offsets jumps before no_offsets no_jumps = record {
   code = [];
@@ -129,3 +111,15 @@ kept_all body offsets jumps before insns off kept end small =
       },
       kept.all_insns ∙ ap (λ (ps : List PlacedInsn). before ++ map (λ (p : PlacedInsn). p.insn) ps) listing.same,
     )
+
+-- one that was known, of which this is found, is read
+pub known_more : (body : Body) (offsets more_offsets : List ℕ) (jumps more_jumps : List PlacedInsn) (before insns more_insns : List Insn) (off : ℕ) (found : Found) → ((k : ℕ) → get_or body.bytes k 0 < 256) → IsKeptTo body offsets jumps before insns off → off < length body.bytes → IsAdded body.map (drop off body.bytes) insns more_insns found
+    → more_offsets ≡ offsets ++ off ∷ [] → ((insn : Insn) → more_insns ≡ insns ++ insn ∷ [] → may_use_table insn.op ≡ found.may_jump → more_jumps ≡ jumps ++ filter (λ p. may_use_table p.insn.op) (record { off = off; insn = insn } ∷ []))
+    → IsKeptTo body more_offsets more_jumps before more_insns (off + found.len)
+known_more body offsets more_offsets jumps more_jumps before insns more_insns off found each kept inside is its_offset its_jump =
+    let here : decoded body.map (drop off body.bytes) ≡ Ok is.insn = stands_decoded body.bytes off each body.map is.insn is.stands in
+    let lengths = decoded_lengths body.bytes off each body.map is.insn here in
+    subst (λ (n : ℕ). IsKeptTo body more_offsets more_jumps before more_insns (off + n)) is.long
+    (kept_more body offsets more_offsets jumps more_jumps before insns more_insns off is.insn kept inside here
+    (decoded_stands body.bytes off each body.map is.insn here) (decoded_only body.bytes off each body.map is.insn here) lengths.0 lengths.2
+    its_offset (its_jump is.insn is.added is.jumps) is.added)

@@ -1,10 +1,12 @@
 -- Spellings that were read before.
-use Rattle.std.specs.Prelude.{◌≡◌, ℕ, ◌-◌, ◌<◌, ◌++◌, List, Some, take, drop, slice_get, All}
+use Rattle.std.specs.Prelude.{◌≡◌, Bool, ℕ, ◌-◌, ◌<◌, ◌++◌, List, Some, take, drop, slice_get, All}
 use Rattle.std.specs.Int.{w64, to_le_bytes}
 use Rattle.operation_defs.specs.declared.insn.Insn.{Insn}
 use Rattle.x86_map.specs.declared.map.Map.{Map}
 use Rattle.x86_decode.specs.Decoding.{StandsInFront}
 use Rattle.x86_decode.specs.Spelling.{Spells}
+use Rattle.x86_text.specs.Code.{may_use_table}
+use Rattle.x86_text.specs.declared.known.Found.{Found}
 use Rattle.x86_text.specs.declared.known.Known.{Known}
 use Rattle.x86_text.specs.declared.known.LongSpelling.{LongSpelling}
 use Rattle.x86_text.specs.declared.known.Spelling.{Spelling}
@@ -24,15 +26,26 @@ pub record SpellsKind (map : Map) (kinds : List Insn) (bytes : List ℕ) (len nu
   pub long : insn.len ≡ len
   pub spells : Spells map bytes insn
 
+-- the same, and whether it may jump by a table
+pub record SpellsShort (map : Map) (kinds : List Insn) (bytes : List ℕ) (len number : ℕ) (may_jump : Bool) : Type 0 where
+  pub spelled : SpellsKind map kinds bytes len number
+  pub jumps : may_use_table spelled.insn.op ≡ may_jump
+
 -- the instruction with this number among these stands in front of these bytes
 pub record IsKindInFront (map : Map) (kinds : List Insn) (bytes : List ℕ) (number : ℕ) : Type 0 where
   pub insn : Insn
   pub at : slice_get kinds number ≡ Some insn
   pub stands : StandsInFront map bytes insn
 
+-- this is found of an instruction among these, which stands in front of these bytes
+pub record IsFoundInFront (map : Map) (kinds : List Insn) (bytes : List ℕ) (found : Found) : Type 0 where
+  pub kind : IsKindInFront map kinds bytes found.number
+  pub long : kind.insn.len ≡ found.len
+  pub jumps : may_use_table kind.insn.op ≡ found.may_jump
+
 -- its bytes spell its instruction; without a length it is none yet
 abbrev pub IsSpelling : Map → List Insn → Spelling → Type 0
-IsSpelling map kinds s = 0 < s.len → SpellsKind map kinds (upper_bytes s.front s.len) s.len s.number
+IsSpelling map kinds s = 0 < s.len → SpellsShort map kinds (upper_bytes s.front s.len) s.len s.number s.may_jump
 
 abbrev pub IsLongSpelling : Map → List Insn → LongSpelling → Type 0
 IsLongSpelling map kinds s = 0 < s.len → SpellsKind map kinds (long_bytes s.front s.back s.len) s.len s.number

@@ -1,14 +1,15 @@
 //! Lists of instructions.
 
-ghost use Rattle.std.specs.Prelude.{◌≡◌, ◌<◌, ◌∷◌, ◌++◌, [], ℕ, true, Ok, Some, length, drop, slice_get, slice_set, IfErr, IfOk, IfSome, OnOk};
+ghost use Rattle.std.specs.Prelude.{◌≡◌, ◌<◌, ◌∷◌, ◌++◌, [], ℕ, true, Ok, Some, length, drop, slice_get, slice_set, IfErr, IfOk, IfSome, MatchOption, OnOk};
 ghost use Rattle.operation_defs.specs.declared.insn.Insn.{Insn};
 ghost use Rattle.x86_decode.specs.Decoding.{decoded, StandsInFront};
 ghost use Rattle.x86_text.specs.Code.{read_by, IsBoundary};
 ghost use Rattle.x86_text.specs.InsnLists.{AreNumbered};
+ghost use Rattle.x86_text.specs.ReadSoFar.{IsAdded};
 ghost use Rattle.x86_text.specs.Refused.{IsTextFault};
 
 use crate::fault::TextFault;
-use crate::known::Known;
+use crate::known::{Found, Known};
 use crate::numbered::NumberedInsns;
 use operation_defs::{Insn, Op};
 use ot_base::NoMemory;
@@ -26,7 +27,7 @@ const HALF: usize = 512;
 /// A list of instructions, of which equal ones mostly stand once. Contracts see it as the list.
 ///
 /// An instruction of the list takes 4 bytes, and one that isn't equal to another 24 more. The spellings take about 5 bytes
-/// for each byte of code that was read at most, and never more than 1.2 MB, until they are forgotten.
+/// for each byte of code that was read at most, and never more than 1.1 MB, until they are forgotten.
 #[derive(Drop)]
 pub struct InsnList {
     /// The instructions that came, each once or, rarely, more often.
@@ -119,8 +120,23 @@ impl InsnList {
         self.known = Known::none(*self.kinds.allocator(), Map::Base);
     }
 
-    /// Reads the instruction at a boundary of a body by a map, and adds it. It is the one that `decode` gives.
+    /// Adds the instruction with which the bytes begin by a map, if it has at most eight bytes and is known.
     #[inline(always)]
+    pub(crate) fn push_known(&mut self, map: Map, bytes: &[u8]) -> Result<Option<Found>, NoMemory>
+        ensures { IfOk result (λ known. MatchOption known (self.new ≡ self.old) (IsAdded map bytes.now self.old self.new)) }
+    {
+        if !self.known.is_by(map) {
+            return Ok(None);
+        }
+        let Some(found) = self.known.find(bytes) else {
+            return Ok(None);
+        };
+        self.numbers.push(found.number)?;
+        Ok(Some(found))
+    }
+
+    /// Reads the instruction at a boundary of a body by a map, and adds it. It is the one that `decode` gives. None of at most
+    /// eight bytes is looked up.
     pub(crate) fn read(&mut self, map: Map, body: &[u8], off: usize) -> Result<Insn, TextFault>
         requires boundary { IsBoundary (read_by map body.now) off }
         requires inside { off < length body.now }
@@ -130,7 +146,7 @@ impl InsnList {
     {
         let bytes = &body[off..];
         if self.known.is_by(map) {
-            if let Some(number) = self.known.find(bytes) {
+            if let Some(number) = self.known.find_long(bytes) {
                 let insn = self.kinds[number as usize];
                 self.numbers.push(number)?;
                 return Ok(insn);
@@ -156,7 +172,7 @@ impl InsnList {
         let number = number_of(&mut self.kinds, &mut self.recent, insn)?;
         self.numbers.push(number)?;
         if self.known.is_by(map) {
-            self.known.note(bytes, insn.len, number);
+            self.known.note(bytes, insn, number);
         }
         Ok(())
     }

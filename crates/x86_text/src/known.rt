@@ -4,8 +4,11 @@ ghost use Rattle.std.specs.Prelude.{◌≡◌, true, ◌-◌, ◌<◌, ◌≤◌
 ghost use Rattle.std.specs.Int.{w64, to_le_bytes};
 ghost use Rattle.operation_defs.specs.declared.insn.Insn.{Insn as AnInsn};
 ghost use Rattle.x86_decode.specs.Decoding.{StandsInFront};
-ghost use Rattle.x86_text.specs.Known.{upper_bytes, AreSpellings, IsKindInFront};
+ghost use Rattle.x86_text.specs.Code.{may_use_table as may_use_a_table};
+ghost use Rattle.x86_text.specs.Known.{upper_bytes, AreSpellings, IsFoundInFront, IsKindInFront};
 
+use crate::guess::likely_len;
+use operation_defs::{Insn, Op};
 use ot_base::NoMemory;
 use std::alloc::Global;
 use x86_decode::Map;
@@ -16,9 +19,6 @@ const SPELLINGS: usize = 65_536;
 /// How many places there are for longer spellings at most.
 const LONG: usize = 2_048;
 
-/// How many places there are for lengths at most.
-const LENGTHS: usize = 32_768;
-
 /// An instruction of at most eight bytes, and how it is spelled.
 #[derive(Clone, Copy)]
 pub(crate) struct Spelling {
@@ -28,6 +28,8 @@ pub(crate) struct Spelling {
     pub(crate) number: u32,
     /// How many bytes it has: none before one is noted.
     pub(crate) len: u8,
+    /// Whether it may jump by a table.
+    pub(crate) may_jump: bool,
 }
 
 /// An instruction of nine to fifteen bytes, and how it is spelled.
@@ -43,14 +45,22 @@ pub(crate) struct LongSpelling {
     pub(crate) len: u8,
 }
 
+/// An instruction whose spelling is known.
+#[derive(Clone, Copy)]
+pub(crate) struct Found {
+    /// Its number among those of the list that differ.
+    pub(crate) number: u32,
+    /// How many bytes it has.
+    pub(crate) len: u8,
+    /// Whether it may jump by a table.
+    pub(crate) may_jump: bool,
+}
+
 /// The spellings by a map that were read last, of those with the same hash.
 #[derive(Drop)]
 pub(crate) struct Known {
     /// By which map they are read.
     pub(crate) map: Map,
-    /// For each hash of first bytes, how many bytes the last instruction has that was noted of those that begin so. It is a
-    /// guess.
-    lengths: Vec<u8>,
     /// For each hash of a spelling, the last one that has it.
     pub(crate) spellings: Vec<Spelling>,
     /// In the same way, those of more than eight bytes.
@@ -64,7 +74,6 @@ impl Known {
     {
         Known {
             map,
-            lengths: Vec::new(alloc),
             spellings: Vec::new(alloc),
             long: Vec::new(alloc),
         }
@@ -78,6 +87,7 @@ impl Known {
             front: 0,
             number: 0,
             len: 0,
+            may_jump: false,
         };
         let no_long = LongSpelling {
             front: 0,
@@ -87,7 +97,6 @@ impl Known {
         };
         Ok(Known {
             map,
-            lengths: vec![in alloc; 0; count.min(LENGTHS)]?,
             spellings: vec![in alloc; none; count.min(SPELLINGS)]?,
             long: vec![in alloc; no_long; (count / 8).min(LONG)]?,
         })
@@ -121,45 +130,33 @@ impl Known {
         place_among(self.long.len(), front ^ back)
     }
 
-    /// The number of the instruction with which the bytes begin, if its spelling is known.
+    /// The instruction of at most eight bytes with which the bytes begin, if its length is guessed and its spelling is known.
     #[inline(always)]
-    pub(crate) fn find(&self, bytes: &[u8]) -> Option<u32>
-        ensures { (kinds : List AnInsn) → AreSpellings kinds self.now → IfSome result (IsKindInFront self.now.map kinds bytes.now) }
+    pub(crate) fn find(&self, bytes: &[u8]) -> Option<Found>
+        ensures { (kinds : List AnInsn) → AreSpellings kinds self.now → IfSome result (IsFoundInFront self.now.map kinds bytes.now) }
     {
         let first = first_eight(bytes)?;
-        let by_few = self.find_by(bytes, first, few_of(first));
-        if by_few.is_some() {
-            return by_few;
-        }
-        self.find_by(bytes, first, four_of(first))
-    }
-
-    /// The number of the instruction with which the bytes begin, of which these are the first eight, if its spelling is known
-    /// and as long as the last one that was noted of those that begin with the telling ones.
-    #[inline(always)]
-    fn find_by(&self, bytes: &[u8], first: u64, telling: u64) -> Option<u32>
-        requires { to_le_bytes w64 first ≡ take 8 bytes.now }
-        ensures { (kinds : List AnInsn) → AreSpellings kinds self.now → IfSome result (IsKindInFront self.now.map kinds bytes.now) }
-    {
-        let len = *self.lengths.get(place_among(self.lengths.len(), telling))?;
-        if len > 8 {
-            return self.find_long(bytes, first, len);
-        }
+        let len = likely_len(first);
         let front = upper_of(first, len)?;
         let spelling = *self.spellings.get(self.place_of(front))?;
         if spelling.front == front && spelling.len == len {
-            Some(spelling.number)
+            Some(Found {
+                number: spelling.number,
+                len,
+                may_jump: spelling.may_jump,
+            })
         } else {
             None
         }
     }
 
-    /// The number of the instruction of more than eight bytes, so many, with which the bytes begin, of which these are the
-    /// first eight, if its spelling is known.
-    fn find_long(&self, bytes: &[u8], first: u64, len: u8) -> Option<u32>
-        requires { to_le_bytes w64 first ≡ take 8 bytes.now }
+    /// The number of the instruction of more than eight bytes with which the bytes begin, if its length is guessed and its
+    /// spelling is known.
+    pub(crate) fn find_long(&self, bytes: &[u8]) -> Option<u32>
         ensures { (kinds : List AnInsn) → AreSpellings kinds self.now → IfSome result (IsKindInFront self.now.map kinds bytes.now) }
     {
+        let first = first_eight(bytes)?;
+        let len = likely_len(first);
         let back = last_eight(bytes, len)?;
         let spelling = *self.long.get(self.long_place_of(first, back))?;
         if spelling.front == first && spelling.back == back && spelling.len == len {
@@ -169,17 +166,21 @@ impl Known {
         }
     }
 
-    /// Keeps the spelling with which the bytes begin, so many of them, with the number of its instruction.
-    pub(crate) fn note(&mut self, bytes: &[u8], len: u8, number: u32)
-        ensures { (kinds : List AnInsn) (insn : AnInsn) → AreSpellings kinds self.old → slice_get kinds number ≡ Some insn → insn.len ≡ len → StandsInFront self.old.map bytes.now insn → AreSpellings kinds self.new }
+    /// Keeps the spelling with which the bytes begin, which are as many as its instruction has, with the instruction's number.
+    pub(crate) fn note(&mut self, bytes: &[u8], insn: Insn, number: u32)
+        ensures { (kinds : List AnInsn) → AreSpellings kinds self.old → slice_get kinds number ≡ Some insn → StandsInFront self.old.map bytes.now insn → AreSpellings kinds self.new }
     {
         if let Some(first) = first_eight(bytes) {
-            note_length(&mut self.lengths, few_of(first), len);
-            note_length(&mut self.lengths, four_of(first), len);
+            let len = insn.len;
             if let Some(front) = upper_of(first, len) {
                 let place = self.place_of(front);
                 if place < self.spellings.len() {
-                    self.spellings[place] = Spelling { front, number, len };
+                    self.spellings[place] = Spelling {
+                        front,
+                        number,
+                        len,
+                        may_jump: may_use_table(insn.op),
+                    };
                 }
             } else if let Some(back) = last_eight(bytes, len) {
                 let place = self.long_place_of(first, back);
@@ -196,12 +197,11 @@ impl Known {
     }
 }
 
-/// Keeps how many bytes an instruction has that begins with these.
-fn note_length(lengths: &mut [u8], telling: u64, len: u8) {
-    let place = place_among(lengths.len(), telling);
-    if place < lengths.len() {
-        lengths[place] = len;
-    }
+/// Whether an operation may jump by a table.
+pub(crate) fn may_use_table(op: Op) -> bool
+    ensures { result ≡ may_use_a_table op }
+{
+    matches!(op, Op::JmpInd { .. } | Op::Jmp { wide: true, .. })
 }
 
 /// The first eight bytes: the first of them is the lowest of the number.
@@ -236,24 +236,6 @@ fn upper_of(first: u64, len: u8) -> Option<u64>
         return None;
     }
     Some(first << (64 - 8 * u32::from(len)))
-}
-
-/// Those of the first bytes, one to three, that mostly tell how long the instruction is.
-#[inline(always)]
-fn few_of(first: u64) -> u64 {
-    let telling = match first & 0xFF {
-        0x50..=0x5F | 0x70..=0x7F | 0x90 | 0xB0..=0xBF | 0xC3 | 0xC9 | 0xCC | 0xE8 | 0xE9 | 0xEB =>
-            { 0xFF }
-        0x0F | 0x40..=0x4F | 0x65 | 0x66 | 0xF0 | 0xF2 | 0xF3 => 0xFF_FFFF,
-        _ => 0xFFFF,
-    };
-    first & telling
-}
-
-/// The first four bytes, and a bit that those few haven't.
-#[inline(always)]
-fn four_of(first: u64) -> u64 {
-    (first & 0xFFFF_FFFF) | (1 << 32)
 }
 
 /// A hash of a number, below so many places. No contract says so.

@@ -4,6 +4,7 @@
 
 mod fault;
 mod fault_text;
+mod guess;
 mod insn_list;
 mod known;
 mod numbered;

@@ -3,13 +3,15 @@ ghost use Rattle.std.specs.List.Sorted.{IsNonDecreasingBy};
 ghost use Rattle.x86_decode.specs.Decoding.{StandsInFront};
 ghost use Rattle.x86_text.specs.Code.{may_use_table as may_use_a_table, read_by, code_of, insn_listed, insns_of, offsets_of, table_jumps_of, IsBoundary, IsCode, IsNextBoundary, IsPreviousBoundary, LeadsTo};
 ghost use Rattle.x86_text.specs.declared.placed.PlacedInsn.{PlacedInsn};
+ghost use Rattle.x86_text.specs.ReadSoFar.{IsKeptTo};
 ghost use Rattle.x86_text.specs.Refused.{IsTextFault};
 ghost use Rattle.operation_defs.specs.declared.insn.Insn.{Insn as InsnValue};
 
 use crate::fault::TextFault;
 use crate::insn_list::InsnList;
+use crate::known::may_use_table;
 use crate::placed::PlacedInsn;
-use operation_defs::{Insn, Op};
+use operation_defs::Insn;
 use ot_base::NoMemory;
 use std::alloc::Global;
 use std::marker::Model;
@@ -58,10 +60,10 @@ impl<'a> Text<'a> {
         insns.make_room(alloc, map, body.len())?;
         let mut off = 0usize;
         while off < body.len() {
-            let insn = insns.read(map, body, off)?;
-            offsets.push(off as u32)?;
-            push_table_jump(&mut table_jumps, off as u64, insn.op, insns)?;
-            off += insn.len as usize;
+            off = read_known(map, body, off, &mut offsets, &mut table_jumps, insns)?;
+            if off < body.len() {
+                off = read_one(map, body, off, &mut offsets, &mut table_jumps, insns)?;
+            }
         }
         Ok(Text {
             map,
@@ -192,11 +194,53 @@ impl<'a> Text<'a> {
     }
 }
 
-/// Whether an operation may jump by a table.
-fn may_use_table(op: Op) -> bool
-    ensures { result ≡ may_use_a_table op }
+/// Reads the instructions of a body from an offset on up to one that isn't known at once, and tells where that stands.
+#[inline(never)]
+fn read_known(
+    map: Map,
+    body: &[u8],
+    from: usize,
+    offsets: &mut Vec<u32>,
+    jumps: &mut Vec<PlacedInsn>,
+    insns: &mut InsnList,
+) -> Result<usize, NoMemory>
+    requires { length body.now ≤ 16_777_216 }
+    ensures from { IfOk result (λ off. from ≤ off) }
+    ensures read { IfOk result (λ off. (before : List InsnValue) → IsKeptTo (read_by map body.now) offsets.old.items jumps.old.items before insns.old from → IsKeptTo (read_by map body.now) offsets.new.items jumps.new.items before insns.new off) }
 {
-    matches!(op, Op::JmpInd { .. } | Op::Jmp { wide: true, .. })
+    let mut off = from;
+    while off < body.len() {
+        let Some(found) = insns.push_known(map, &body[off..])? else {
+            return Ok(off);
+        };
+        offsets.push(off as u32)?;
+        push_table_jump(jumps, off as u64, found.may_jump, insns)?;
+        off += found.len as usize;
+    }
+    Ok(off)
+}
+
+/// Reads the instruction of a body at an offset, and tells where it ends.
+#[inline(never)]
+fn read_one(
+    map: Map,
+    body: &[u8],
+    off: usize,
+    offsets: &mut Vec<u32>,
+    jumps: &mut Vec<PlacedInsn>,
+    insns: &mut InsnList,
+) -> Result<usize, TextFault>
+    requires few { length body.now ≤ 16_777_216 }
+    requires boundary { IsBoundary (read_by map body.now) off }
+    requires inside { off < length body.now }
+    ensures behind { IfOk result (λ behind. off < behind) }
+    ensures read { IfOk result (λ behind. (before : List InsnValue) → IsKeptTo (read_by map body.now) offsets.old.items jumps.old.items before insns.old off → IsKeptTo (read_by map body.now) offsets.new.items jumps.new.items before insns.new behind) }
+    ensures fault { IfErr result (IsTextFault (read_by map body.now)) }
+{
+    let insn = insns.read(map, body, off)?;
+    offsets.push(off as u32)?;
+    push_table_jump(jumps, off as u64, may_use_table(insn.op), insns)?;
+    Ok(off + insn.len as usize)
 }
 
 /// Adds the last instruction of a list, which stands at an offset.
@@ -210,18 +254,18 @@ fn push_last(jumps: &mut Vec<PlacedInsn>, off: u64, insns: &InsnList) -> Result<
     Ok(())
 }
 
-/// Adds the last instruction of a list, which has this operation and stands at an offset, where it may jump by a table.
+/// Adds the last instruction of a list, which stands at an offset, where it may jump by a table.
 #[inline(always)]
 fn push_table_jump(
     jumps: &mut Vec<PlacedInsn>,
     off: u64,
-    op: Op,
+    may_jump: bool,
     insns: &InsnList,
 ) -> Result<(), NoMemory>
     requires { 0 < length insns.now }
-    ensures { (before : List InsnValue) (last : InsnValue) → insns.now ≡ before ++ last ∷ [] → last.op ≡ op → OnOk result (jumps.new.items ≡ jumps.old.items ++ filter (λ p. may_use_a_table p.insn.op) (record { off = off; insn = last } ∷ [])) }
+    ensures { (before : List InsnValue) (last : InsnValue) → insns.now ≡ before ++ last ∷ [] → may_use_a_table last.op ≡ may_jump → OnOk result (jumps.new.items ≡ jumps.old.items ++ filter (λ p. may_use_a_table p.insn.op) (record { off = off; insn = last } ∷ [])) }
 {
-    if may_use_table(op) {
+    if may_jump {
         push_last(jumps, off, insns)?;
     }
     Ok(())

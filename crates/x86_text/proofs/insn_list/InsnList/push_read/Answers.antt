@@ -25,7 +25,7 @@ invariant_of-self-then-is_by c =
     let stands : StandsInFront c.self.inside.known.map c.args.bytes.now c.args.insn = subst (λ (map : Map). StandsInFront map c.args.bytes.now c.args.insn) (sym (c.if-is_by.ensures refl)) c.requires in
     record {
       numbered = pushed_numbers c.self.inside.kinds.items c.number_of.new.kinds.items c.in_ok-number.ensures.kept c.self.inside.numbers.items c.self.invariant.numbered c.args.self.now c.self.view_is c.in_ok-number.number c.args.insn c.in_ok-number.ensures.number c.push.new.self.items c.in_ok-push.ensures.items;
-      spelled = c.note.ensures c.number_of.new.kinds.items c.args.insn (still_spellings c.self.inside.kinds.items c.number_of.new.kinds.items c.in_ok-number.ensures.kept c.self.inside.known c.self.invariant.spelled) c.in_ok-number.ensures.number refl stands;
+      spelled = c.note.ensures c.number_of.new.kinds.items (still_spellings c.self.inside.kinds.items c.number_of.new.kinds.items c.in_ok-number.ensures.kept c.self.inside.known c.self.invariant.spelled) c.in_ok-number.ensures.number stands;
     }
 
 pub invariant_of-self-else-is_by : goal.invariant_of-self-else-is_by
