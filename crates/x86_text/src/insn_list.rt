@@ -9,7 +9,7 @@ ghost use Rattle.x86_text.specs.ReadSoFar.{IsAdded};
 ghost use Rattle.x86_text.specs.Refused.{IsTextFault};
 
 use crate::fault::TextFault;
-use crate::known::{Found, Known};
+use crate::known::{Found, Known, place_among};
 use crate::numbered::NumberedInsns;
 use operation_defs::{Insn, Op};
 use ot_base::NoMemory;
@@ -20,9 +20,11 @@ use x86_decode::{Map, decode};
 /// How many variants of operations have no number.
 const BARE: usize = 24;
 
-/// How many places there are for hashes: of each half the first are for operations without a number, and the others for
-/// those with one.
+/// How many hashes there are of instructions whose operations have no number, and as many of others.
 const HALF: usize = 512;
+
+/// How many places there are at most for instructions whose operations have a number.
+const NUMBERED: usize = 8_192;
 
 /// A list of instructions, of which equal ones mostly stand once. Contracts see it as the list.
 ///
@@ -34,8 +36,8 @@ pub struct InsnList {
     kinds: Vec<Insn>,
     /// For each instruction of the list, where in `kinds` it stands.
     numbers: Vec<u32>,
-    /// For each hash, where in `kinds` the last one that has it stands. It is a guess: what it tells is tried by
-    /// comparison.
+    /// For each place that instructions may have, where in `kinds` the last one stands that has it. It is a guess: what it tells
+    /// is tried by comparison.
     recent: Vec<u32>,
     /// How instructions are spelled that were read, with the numbers of those in `kinds`.
     known: Known,
@@ -105,6 +107,7 @@ impl InsnList {
     pub(crate) fn make_room(&mut self, alloc: Global, map: Map, size: usize) -> Result<(), NoMemory>
         ensures { self.new ≡ self.old }
     {
+        make_places(alloc, &mut self.recent, size)?;
         self.numbers.reserve(size / 3)?;
         let count = (size / 8).saturating_add(self.numbers.len() / 2);
         if !self.known.has_room(map, count) {
@@ -197,13 +200,22 @@ impl InsnList {
     }
 }
 
-/// The number of an instruction among these, to which it is added unless its hash tells it.
+/// Makes places for the instructions of a body of so many bytes, if there are fewer. What was noted is forgotten then.
+fn make_places(alloc: Global, recent: &mut Vec<u32>, size: usize) -> Result<(), NoMemory> {
+    let places = HALF + (size / 16).min(NUMBERED);
+    if recent.len() < places {
+        *recent = vec![in alloc; 0; places]?;
+    }
+    Ok(())
+}
+
+/// The number of an instruction among these, to which it is added unless its place tells it.
 fn number_of(kinds: &mut Vec<Insn>, recent: &mut [u32], insn: Insn) -> Result<u32, NoMemory>
     ensures number { IfOk result (λ n. slice_get kinds.new.items n ≡ Some insn) }
     ensures kept { (k : ℕ) (kind : Insn) → slice_get kinds.old.items k ≡ Some kind → slice_get kinds.new.items k ≡ Some kind }
 {
-    let hash = hash_of(insn);
-    if let Some(number) = guessed(kinds, recent, hash, insn) {
+    let place = place_of(recent.len(), insn);
+    if let Some(number) = guessed(kinds, recent, place, insn) {
         return Ok(number);
     }
     if kinds.len() >= u32::MAX as usize {
@@ -211,17 +223,17 @@ fn number_of(kinds: &mut Vec<Insn>, recent: &mut [u32], insn: Insn) -> Result<u3
     }
     let number = kinds.len() as u32;
     kinds.push(insn)?;
-    if hash < recent.len() {
-        recent[hash] = number;
+    if place < recent.len() {
+        recent[place] = number;
     }
     Ok(number)
 }
 
-/// The number of an instruction among these, where it is the last one that has its hash.
-fn guessed(kinds: &[Insn], recent: &[u32], hash: usize, insn: Insn) -> Option<u32>
+/// The number of an instruction among these, where it is the last one that has its place.
+fn guessed(kinds: &[Insn], recent: &[u32], place: usize, insn: Insn) -> Option<u32>
     ensures { IfSome result (λ n. slice_get kinds.now n ≡ Some insn) }
 {
-    let number = *recent.get(hash)?;
+    let number = *recent.get(place)?;
     if has_number(kinds, number, insn) {
         Some(number)
     } else {
@@ -243,17 +255,31 @@ fn has_number(kinds: &[Insn], number: u32, insn: Insn) -> bool
 /// A hash of an instruction, below 1,024. It is the instruction's alone, where its operation has no number and it has at most 15
 /// bytes. No contract says so.
 pub fn hash_of(insn: Insn) -> usize {
-    let variant = variant_of(insn.op);
-    let shape = variant
-        .wrapping_mul(16)
-        .wrapping_add(insn.len as usize % 16);
-    if variant < BARE {
+    let shape = shape_of(insn);
+    if variant_of(insn.op) < BARE {
         return shape;
     }
     let mixed = number_in(insn.op)
         .wrapping_add(shape as u64)
         .wrapping_mul(0x9E37_79B9_7F4A_7C15);
     HALF + (mixed >> 55) as usize
+}
+
+/// A number for an instruction's operation and length, but for the operation's number: below 512, where that has none.
+fn shape_of(insn: Insn) -> usize {
+    variant_of(insn.op)
+        .wrapping_mul(16)
+        .wrapping_add(insn.len as usize % 16)
+}
+
+/// The place of an instruction among so many. Those whose operations have no number come first. No contract says so.
+fn place_of(places: usize, insn: Insn) -> usize {
+    let shape = shape_of(insn);
+    if variant_of(insn.op) < BARE {
+        return shape;
+    }
+    let number = number_in(insn.op).wrapping_add(shape as u64);
+    HALF.wrapping_add(place_among(places.saturating_sub(HALF), number))
 }
 
 /// The number that an operation has.

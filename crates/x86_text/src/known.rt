@@ -240,7 +240,7 @@ fn upper_of(first: u64, len: u8) -> Option<u64>
 
 /// A hash of a number, below so many places. No contract says so.
 #[inline(always)]
-fn place_among(places: usize, number: u64) -> usize {
+pub(crate) fn place_among(places: usize, number: u64) -> usize {
     let hash = number.wrapping_mul(0x9E37_79B9_7F4A_7C15) >> 32;
     (hash.wrapping_mul(places as u64) >> 32) as usize
 }
