@@ -1,6 +1,6 @@
 //! Where control goes from the points, found by one look at each of them.
 
-ghost use Rattle.std.specs.Prelude.{◌≡◌, ◌+◌, ◌<◌, ◌^◌, ◌++◌, ◌∷◌, [], ℕ, List, All, IfOk, OnOk, Some, slice_get, true};
+ghost use Rattle.std.specs.Prelude.{◌≡◌, ◌+◌, ◌<◌, ◌≤◌, ◌^◌, ◌++◌, ◌∷◌, [], ℕ, List, All, IfOk, OnOk, Some, slice_get, true};
 ghost use Rattle.ot_base.specs.NameLists.{NameLists};
 ghost use Rattle.elf_objects.specs.Elf.{Elf};
 ghost use Rattle.flow_defs.specs.Coded.{Coded};
@@ -30,7 +30,7 @@ use operation_defs::Insn;
 use ot_base::{Lists, NoMemory};
 use point_edges::{Branch, FlowPoints, branch_at, push_edges, role};
 use program_graph::Transfer;
-use return_search::Exit;
+use return_search::{Exit, MOST_POINTS, StoredExit};
 use std::alloc::Global;
 
 /// The edges of all points, as in a flow.
@@ -50,7 +50,7 @@ pub(crate) struct Outgoing {
     /// The points that have the edges of another, ascending.
     pub(crate) alike: Vec<u32>,
     /// What they are to a return.
-    pub(crate) exits: Vec<Exit>,
+    pub(crate) exits: Vec<StoredExit>,
     /// Their transfers, where every call can come back.
     pub(crate) transfers: TransferList,
 }
@@ -145,7 +145,7 @@ fn look_for_jumps(
 #[derive(Clone, Copy)]
 struct Kept {
     /// What it is to a return.
-    exit: Exit,
+    exit: StoredExit,
     /// The number of its transfer.
     number: u32,
 }
@@ -161,18 +161,18 @@ fn keep(
     numbers: &[u32],
 ) -> Result<Kept, NoMemory>
     requires point { n < count_of points.now }
-    requires few { count_of points.now < 2 ^ 32 }
+    requires few { count_of points.now ≤ MOST_POINTS }
     requires found { IsFound points.now lists.now n found }
     requires numbered { AreNumbered (IsTransferIfBack points.now) transfers.old.items numbers.now n }
     ensures { IfOk result (λ kept. IsKept points.now lists.now n transfers.old.items transfers.new.items kept.exit kept.number) }
 {
     match found {
         Found::Own { exit, transfer } => Ok(Kept {
-            exit,
+            exit: StoredExit::new(exit),
             number: number_transfer(transfers, transfer)?,
         }),
         Found::Alike { first } => Ok(Kept {
-            exit: Exit::Passes,
+            exit: StoredExit::passing(),
             number: numbers[first as usize],
         }),
     }
@@ -223,7 +223,7 @@ fn list_any(
     numbers: &[u32],
 ) -> Result<Kept, NoMemory>
     requires point { n < count_of points.now }
-    requires few { count_of points.now < 2 ^ 32 }
+    requires few { count_of points.now ≤ MOST_POINTS }
     requires names { AreLookedUp points.now.elf lists.now gathered.old.names.items }
     requires jumps { AreLoneJumps points.now gathered.old.jumps n }
     requires numbered { AreNumbered (IsTransferIfBack points.now) gathered.old.transfers.items numbers.now n }
@@ -254,7 +254,7 @@ fn list_point(
     numbers: &[u32],
 ) -> Result<Kept, NoMemory>
     requires point { n < count_of points.now }
-    requires few { count_of points.now < 2 ^ 32 }
+    requires few { count_of points.now ≤ MOST_POINTS }
     requires names { AreLookedUp points.now.elf lists.now gathered.old.names.items }
     requires jumps { AreLoneJumps points.now gathered.old.jumps n }
     requires numbered { AreNumbered (IsTransferIfBack points.now) gathered.old.transfers.items numbers.now n }
@@ -268,12 +268,13 @@ fn list_point(
     }
     push_below(points, n, &mut gathered.edges)?;
     Ok(Kept {
-        exit: Exit::Passes,
+        exit: StoredExit::passing(),
         number: 0,
     })
 }
 
-/// Where control goes from all points. 2^32 edges, which would take 32 GiB, are too many.
+/// Where control goes from all points. More than 2^32 - 4 points, which would take 48 GiB, are too many, and so are 2^32 edges,
+/// which would take 32.
 ///
 /// Jumps that go nowhere but through one table have the edges of the first of them.
 #[inline(never)]
@@ -290,6 +291,9 @@ pub(crate) fn list_outgoing(
     ensures few { OnOk result (count_of points.now < 2 ^ 32) }
 {
     let count = count_points(points.places());
+    if count > MOST_POINTS {
+        return Err(NoMemory);
+    }
     let mut starts = Vec::with_capacity(alloc, count as usize + 1)?;
     starts.push_reserved(0);
     let mut exits = Vec::with_capacity(alloc, count as usize)?;

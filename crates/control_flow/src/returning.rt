@@ -14,7 +14,7 @@ use crate::outgoing::EdgeList;
 use object_law::flow_laws::program_is_one;
 use ot_base::{Lists, NoMemory};
 use point_edges::{FlowPoints, object_is_in_order};
-use return_search::{Exit, Flow, Returns, find_returns};
+use return_search::{Flow, Returns, StoredExit, find_returns};
 use std::alloc::Global;
 
 /// The law that the program of an object whose code is read has what is asked of programs.
@@ -31,7 +31,7 @@ fn flow_of(
     points: &FlowPoints<'_, '_, '_>,
     lists: &Lists,
     list: EdgeList,
-    exits: Vec<Exit>,
+    exits: Vec<StoredExit>,
 ) -> Result<Flow, NoMemory>
     requires edges { (alike : List ℕ) × AreEdges points.now list.starts.items list.edges.items alike (count_of points.now) }
     requires exits { AreExits points.now lists.now exits.items (count_of points.now) }
@@ -61,7 +61,7 @@ pub(crate) fn returns_of(
     points: &FlowPoints<'_, '_, '_>,
     lists: &Lists,
     list: EdgeList,
-    exits: Vec<Exit>,
+    exits: Vec<StoredExit>,
 ) -> Result<Returns, NoMemory>
     requires edges { (alike : List ℕ) × AreEdges points.now list.starts.items list.edges.items alike (count_of points.now) }
     requires exits { AreExits points.now lists.now exits.items (count_of points.now) }

@@ -5,3 +5,4 @@ pub mod Backward
 pub mod Search
 pub mod Stays
 pub mod Flagged
+pub mod Stored

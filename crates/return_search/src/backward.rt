@@ -97,7 +97,7 @@ impl Backward {
         ensures one_more { OnOk result (IsBackwardTo flow.now self.new (q + 1) (start_of flow.now q)) }
         ensures search { OnOk result (IsSearchTo flow.now search.new (q + 1)) }
     {
-        match flow.exits[q as usize] {
+        match flow.exits[q as usize].exit() {
             Exit::Calls { entry } => self.add(Lead::Call { from: q }, entry)?,
             Exit::Leaves => find_leaving(flow, search, q),
             Exit::CallsOut | Exit::CallsNever | Exit::Passes => {}

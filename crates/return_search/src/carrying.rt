@@ -10,15 +10,16 @@ ghost use Rattle.return_search.specs.Search.{AreListed, CallBelow, carries as ca
 
 use crate::return_search::Search;
 use crate::searched_flow::{Exit, Flow};
+use crate::stored::StoredExit;
 use machine_defs::{Edge, EdgeKind};
 
 /// Whether the target of a point's call returns, as far as it is known. What isn't a call passes.
-pub(crate) fn target_returns(exits: &[Exit], known: &[bool], q: usize) -> bool
+pub(crate) fn target_returns(exits: &[StoredExit], known: &[bool], q: usize) -> bool
     requires known { CallBelow exits.now (length known.now) }
     requires point { q < length exits.now }
     ensures { result ≡ does_target_return known.now (slice_index_or exits.now q Passes) }
 {
-    match exits[q] {
+    match exits[q].exit() {
         Exit::Calls { entry } => known[entry as usize],
         Exit::CallsNever => false,
         Exit::Leaves | Exit::CallsOut | Exit::Passes => true,
@@ -31,7 +32,7 @@ fn is_dead_call(flow: &Flow, q: u32) -> bool
     requires point { q < points_of flow.now }
     ensures { result ≡ (is_calling (exit_at flow.now q) && dead_end_at flow.now q) }
 {
-    match flow.exits[q as usize] {
+    match flow.exits[q as usize].exit() {
         Exit::Calls { .. } | Exit::CallsOut | Exit::CallsNever => flow.dead_ends[q as usize],
         Exit::Leaves | Exit::Passes => false,
     }
@@ -44,7 +45,7 @@ fn carries_next(flow: &Flow, known: &[bool], q: u32) -> bool
     requires point { q < points_of flow.now }
     ensures { result ≡ carries_back flow.now known.now q Next }
 {
-    if let Exit::Passes = flow.exits[q as usize] {
+    if flow.exits[q as usize].passes() {
         return true;
     }
     target_returns(&flow.exits, known, q as usize) && !is_dead_call(flow, q)
@@ -86,7 +87,7 @@ fn passes_on(flow: &Flow, q: u32) -> bool
     requires point { q < points_of flow.now }
     ensures { IsTrue result → PassesOn flow.now q }
 {
-    let exit = flow.exits[q as usize];
+    let exit = flow.exits[q as usize].exit();
     matches!(exit, Exit::Passes) || (matches!(exit, Exit::CallsOut) && !flow.dead_ends[q as usize])
 }
 
@@ -120,13 +121,13 @@ pub(crate) fn end_of_plain(flow: &Flow, from: u32) -> u32
 {
     let starts: &[u32] = &flow.starts;
     let edges: &[Edge] = &flow.edges;
-    let exits: &[Exit] = &flow.exits;
+    let exits: &[StoredExit] = &flow.exits;
     let mut q = from as usize;
     let mut first = starts[q] as usize;
     'plain: while q < exits.len()
         && starts[q + 1] as usize == first + 1
         && edges[first].to == (q + 1) as u32
-        && matches!(exits[q], Exit::Passes)
+        && exits[q].passes()
     {
         q += 1;
         first += 1;

@@ -10,6 +10,7 @@ use crate::kept_edges::drop_edges;
 use crate::return_search::Search;
 use crate::searched_flow::Flow;
 use crate::spreading::spread;
+use crate::stored::StoredEntry;
 use machine_defs::Edge;
 use ot_base::NoMemory;
 use std::alloc::Global;
@@ -31,7 +32,7 @@ pub struct Returns {
     /// Whether execution never passes a point, as the flow told it.
     pub dead_ends: Vec<bool>,
     /// For each point, the entry at which control may come to stand at it, if there is one, as the flow told it.
-    pub entered: Vec<Option<u32>>,
+    pub entered: Vec<StoredEntry>,
 }
 
 /// Finds from which points of a program a return may come, backwards over its edges, and drops the Next of each call that

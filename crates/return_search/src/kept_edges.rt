@@ -9,7 +9,8 @@ ghost use Rattle.return_search.specs.Search.{CallBelow, target_returns};
 ghost use Rattle.return_search.specs.Stays.{stays, AreKept};
 
 use crate::carrying::target_returns as does_target_return;
-use crate::searched_flow::{Exit, Flow};
+use crate::searched_flow::Flow;
+use crate::stored::StoredExit;
 use machine_defs::{Edge, EdgeKind};
 
 /// Whether control may go along an edge of this kind from a call that doesn't come back.
@@ -88,7 +89,7 @@ fn lessen_starts(starts: &mut Vec<u32>, from: usize, to: usize, by: u32)
 /// Whether the target of a point's call returns.
 // Apart, so that the loop over the points, most of which pass, is none over a jump table.
 #[inline(never)]
-fn call_returns(exits: &[Exit], known: &[bool], q: usize) -> bool
+fn call_returns(exits: &[StoredExit], known: &[bool], q: usize) -> bool
     requires known { CallBelow exits.now (length known.now) }
     requires point { q < length exits.now }
     ensures { result ≡ target_returns known.now (slice_index_or exits.now q Passes) }
@@ -98,7 +99,7 @@ fn call_returns(exits: &[Exit], known: &[bool], q: usize) -> bool
 
 /// The first point from one on the target of whose call doesn't return, or the end of the points.
 #[inline(never)]
-fn end_of_returning(exits: &[Exit], known: &[bool], from: usize) -> usize
+fn end_of_returning(exits: &[StoredExit], known: &[bool], from: usize) -> usize
     requires known { CallBelow exits.now (length known.now) }
     requires from { from ≤ length exits.now }
     ensures from { from ≤ result }
@@ -107,9 +108,7 @@ fn end_of_returning(exits: &[Exit], known: &[bool], from: usize) -> usize
     ensures end { result < length exits.now → target_returns known.now (slice_index_or exits.now result Passes) ≡ false }
 {
     let mut q = from;
-    'returning: while q < exits.len()
-        && (matches!(exits[q], Exit::Passes) || call_returns(exits, known, q))
-    {
+    'returning: while q < exits.len() && (exits[q].passes() || call_returns(exits, known, q)) {
         q += 1;
     }
     q

@@ -2,6 +2,7 @@
 
 ghost use Rattle.std.specs.Prelude.{◌≡◌, ◌<◌, length};
 
+use crate::stored::{StoredEntry, StoredExit};
 use machine_defs::Edge;
 
 /// What a point is to a return.
@@ -29,12 +30,12 @@ pub struct Flow {
     /// that has the edges of another's jump table may have one edge of a table in their place, which leads to that point.
     pub edges: Vec<Edge>,
     /// What each point is to a return.
-    pub exits: Vec<Exit>,
+    pub exits: Vec<StoredExit>,
     /// Whether execution never passes a point.
     pub dead_ends: Vec<bool>,
     /// For each point, the entry at which control may come to stand at it, if there is one. Else a call that goes there goes to
     /// the point itself, and control that comes to it stands nowhere else.
-    pub entered: Vec<Option<u32>>,
+    pub entered: Vec<StoredEntry>,
 }
 
 impl Flow {
@@ -56,7 +57,7 @@ impl Flow {
         ensures is { result ≡ callee_at self.now q }
         ensures inside { result < points_of self.now }
     {
-        self.entered[q as usize].unwrap_or(q)
+        self.entered[q as usize].entry().unwrap_or(q)
     }
 
     /// The edges of a point.

@@ -14,6 +14,7 @@ use crate::carrying::{carries, is_carried_to};
 use crate::chains::is_open;
 use crate::return_search::Search;
 use crate::searched_flow::Flow;
+use crate::stored::StoredEntry;
 use ot_base::NoMemory;
 use std::alloc::Global;
 
@@ -168,13 +169,13 @@ fn pass_on(flow: &Flow, backward: &Backward, search: &mut Search, x: u32)
 
 /// Whether nothing leads to a point but the point right before it, which steps on to it, and no call names it: control comes to
 /// it at no entry, and it is open.
-fn is_stepped_to(entered: &[Option<u32>], heads: &[u32], x: usize) -> bool
+fn is_stepped_to(entered: &[StoredEntry], heads: &[u32], x: usize) -> bool
     requires entered { x < length entered.now }
     requires heads { x < length heads.now }
     ensures entered { IsTrue result → slice_index_or entered.now x None ≡ None }
     ensures opened { IsTrue result → IsOpen heads.now x }
 {
-    entered[x].is_none() && is_open(heads, x)
+    !entered[x].is_some() && is_open(heads, x)
 }
 
 /// Goes back from a point that was taken, as long as nothing leads there but a step from the point before, which isn't found
@@ -188,7 +189,7 @@ fn run_back(flow: &Flow, backward: &Backward, search: &mut Search, x: u32) -> u3
     ensures taken { IsTaken flow.now search.new result }
     ensures on { RunsOn search.old search.new }
 {
-    let entered: &[Option<u32>] = &flow.entered;
+    let entered: &[StoredEntry] = &flow.entered;
     let heads = backward.chains.heads();
     let mut at = x as usize;
     'run: while at > 0 && !search.found[at - 1] && is_stepped_to(entered, heads, at) {

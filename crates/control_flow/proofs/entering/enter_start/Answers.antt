@@ -25,7 +25,7 @@ returns-clause-right c =
     let is : is_entry o.elf c.args.start ≡ true = ap (λ (p : Coded). is_entry p.elf c.args.start) (sym c.places-places.ensures) ∙ sym c.is_entry.ensures ∙ c.if-not-is_entry.false in
     let number : number_of o (plain_point c.args.start) ≡ Some c.in-Some.entry = ap (λ (p : Coded). number_of p (plain_point c.args.start)) (sym c.places-places.ensures) ∙ sym c.number_of.ensures ∙ c.in-Some.is in
     let comes : c.as_slice.result.now ≡ arrive o c.args.start = c.as_slice.ensures ∙ c.in_ok-stands.ensures.points ∙ ap (λ (p : Coded). arrive p c.args.start) c.arrivals.ensures in
-    right_more o c.args.entered.now.items c.enter.new.entered.items c.as_slice.result.now c.args.start c.in-Some.entry c.requires is number comes c.enter.ensures.long c.enter.ensures.kept
+    right_more o c.args.entered.now.items c.enter.new.entered.items c.as_slice.result.now c.args.start c.in-Some.entry c.requires.right is number comes c.enter.ensures.long c.enter.ensures.kept
 
 pub returns-clause-kept : goal.returns-clause-kept
 returns-clause-kept c =
@@ -33,7 +33,7 @@ returns-clause-kept c =
     let is : is_entry o.elf c.args.start ≡ true = ap (λ (p : Coded). is_entry p.elf c.args.start) (sym c.places-places.ensures) ∙ sym c.is_entry.ensures ∙ c.if-not-is_entry.false in
     let number : number_of o (plain_point c.args.start) ≡ Some c.in-Some.entry = ap (λ (p : Coded). number_of p (plain_point c.args.start)) (sym c.places-places.ensures) ∙ sym c.number_of.ensures ∙ c.in-Some.is in
     let comes : c.as_slice.result.now ≡ arrive o c.args.start = c.as_slice.ensures ∙ c.in_ok-stands.ensures.points ∙ ap (λ (p : Coded). arrive p c.args.start) c.arrivals.ensures in
-    kept_more o c.args.entered.now.items c.enter.new.entered.items c.as_slice.result.now c.args.start c.in-Some.entry c.requires is number comes c.enter.ensures.long c.enter.ensures.kept
+    kept_more o c.args.entered.now.items c.enter.new.entered.items c.as_slice.result.now c.args.start c.in-Some.entry c.requires.right is number comes c.enter.ensures.long c.enter.ensures.kept
 
 pub returns-clause-listed : goal.returns-clause-listed
 returns-clause-listed c =
@@ -41,4 +41,4 @@ returns-clause-listed c =
     let is : is_entry o.elf c.args.start ≡ true = ap (λ (p : Coded). is_entry p.elf c.args.start) (sym c.places-places.ensures) ∙ sym c.is_entry.ensures ∙ c.if-not-is_entry.false in
     let number : number_of o (plain_point c.args.start) ≡ Some c.in-Some.entry = ap (λ (p : Coded). number_of p (plain_point c.args.start)) (sym c.places-places.ensures) ∙ sym c.number_of.ensures ∙ c.in-Some.is in
     let comes : c.as_slice.result.now ≡ arrive o c.args.start = c.as_slice.ensures ∙ c.in_ok-stands.ensures.points ∙ ap (λ (p : Coded). arrive p c.args.start) c.arrivals.ensures in
-    listed_more o c.args.entered.now.items c.enter.new.entered.items c.as_slice.result.now c.args.start c.in-Some.entry c.requires is number comes c.enter.ensures.listed
+    listed_more o c.args.entered.now.items c.enter.new.entered.items c.as_slice.result.now c.args.start c.in-Some.entry c.requires.right is number comes c.enter.ensures.listed

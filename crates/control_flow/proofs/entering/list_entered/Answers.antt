@@ -14,8 +14,8 @@ loop-function-init c =
     let count : c.count_points.result ≡ count_of o = c.count_points.ensures ∙ ap count_of c.places-places.ensures in
     none_listed o c.functions-function-items.result.now c.in_ok-entered.entered.items c.count_points.result count c.in_ok-entered.ensures
 
-pub enter_start-requires : goal.enter_start-requires
-enter_start-requires c = c.loop-function.invariant.are
+pub enter_start-requires-clause-right : goal.enter_start-requires-clause-right
+enter_start-requires-clause-right c = c.loop-function.invariant.are
 
 pub loop-function-preserved : goal.loop-function-preserved
 loop-function-preserved c =

@@ -12,4 +12,4 @@ returns-in-Alike c =
     let n : ℕ = c.args.n in
     let r : ℕ = c.in-Alike.first in
     let found : (r < n) × GoAlike o (point_at o n) (point_at o r) = subst (IsFound o c.args.lists.now n) c.in-Alike.is c.requires.found in
-    kept_alike o c.args.lists.now c.args.transfers.now.items c.args.transfers.now.items c.args.numbers.now n r refl c.requires.numbered found.0 found.1
+    rw c.passing.ensures (kept_alike o c.args.lists.now c.args.transfers.now.items c.args.transfers.now.items c.args.numbers.now n r refl c.requires.numbered found.0 found.1)

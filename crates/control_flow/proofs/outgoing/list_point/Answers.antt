@@ -26,7 +26,7 @@ returns-clause-gathered c =
     record {
       found = Own Passes USUAL;
       listed = record { pushed = c.in_ok-push_below.ensures.pushed; inside = c.in_ok-push_below.ensures.inside; unlisted = refl };
-      kept = kept_own o lists transfers transfers n Passes USUAL 0
+      kept = rw c.passing.ensures (kept_own o lists transfers transfers n Passes USUAL 0
           (record { is = straight_exit o n straight lists; known = passes_calls_none o })
-          (straight_transfer o n straight) (stays transfers transfers USUAL 0 refl c.requires.usual);
+          (straight_transfer o n straight) (stays transfers transfers USUAL 0 refl c.requires.usual));
     }

@@ -27,7 +27,7 @@ pub add-requires : goal.add-requires
 add-requires c =
     let flow = c.args.flow.now in
     let q = c.args.q in
-    let is : exit_at flow q ≡ Calls c.in-Calls.entry = sym (get_or_read flow.exits.items q (c.index.result).now c.requires.point c.index.ensures Passes) ∙ c.in-Calls.is in
+    let is : exit_at flow q ≡ Calls c.in-Calls.entry = sym (c.exit.ensures ∙ get_or_read flow.exits.items q (c.index.result).now c.requires.point c.index.ensures Passes) ∙ c.in-Calls.is in
     let inside : c.in-Calls.entry < points_of flow = c.requires.shape.calls q c.in-Calls.entry is in
     record { to = omega (arith, inside, c.requires.so_far.heads) }
 
@@ -38,7 +38,7 @@ returns-in_ok-add-in-Calls-clause-one_more c =
     let before = c.args.self.now in
     let after = c.add.new.self in
     let was = c.requires.so_far in
-    let is : exit_at flow q ≡ Calls c.in-Calls.entry = sym (get_or_read flow.exits.items q (c.index.result).now c.requires.point c.index.ensures Passes) ∙ c.in-Calls.is in
+    let is : exit_at flow q ≡ Calls c.in-Calls.entry = sym (c.exit.ensures ∙ get_or_read flow.exits.items q (c.index.result).now c.requires.point c.index.ensures Passes) ∙ c.in-Calls.is in
     let pushed : after.leads.items ≡ before.leads.items ++ Call q ∷ [] = c.in_ok-add-in-Calls.ensures.leads in
     record {
       leads = subst (λ (ls : List Lead). AreLeads flow ls (q + 1) (start_of flow q)) (sym pushed) (leads_call flow before.leads.items q (start_of flow q) was.leads c.requires.point);
@@ -51,14 +51,14 @@ pub returns-in_ok-add-in-Calls-clause-search : goal.returns-in_ok-add-in-Calls-c
 returns-in_ok-add-in-Calls-clause-search c =
     let flow = c.args.flow.now in
     let q = c.args.q in
-    let is : exit_at flow q ≡ Calls c.in-Calls.entry = sym (get_or_read flow.exits.items q (c.index.result).now c.requires.point c.index.ensures Passes) ∙ c.in-Calls.is in
+    let is : exit_at flow q ≡ Calls c.in-Calls.entry = sym (c.exit.ensures ∙ get_or_read flow.exits.items q (c.index.result).now c.requires.point c.index.ensures Passes) ∙ c.in-Calls.is in
     leaving_no flow c.args.search.now q (λ e. let z : ⊥ = cc in z) c.requires.search
 
 pub returns-in-Leaves-clause-one_more : goal.returns-in-Leaves-clause-one_more
 returns-in-Leaves-clause-one_more c =
     let flow = c.args.flow.now in
     let q = c.args.q in
-    let is : exit_at flow q ≡ Leaves = sym (get_or_read flow.exits.items q (c.index.result).now c.requires.point c.index.ensures Passes) ∙ c.in-Leaves.is in
+    let is : exit_at flow q ≡ Leaves = sym (c.exit.ensures ∙ get_or_read flow.exits.items q (c.index.result).now c.requires.point c.index.ensures Passes) ∙ c.in-Leaves.is in
     no_call flow c.args.self.now q c.requires.so_far c.requires.steps (λ entry e. let z : ⊥ = cc in z)
 
 -- what is none of two kinds
@@ -71,8 +71,8 @@ pub returns-in-CallsOut : goal.returns-in-CallsOut
 returns-in-CallsOut c =
     let flow = c.args.flow.now in
     let q = c.args.q in
-    let read : (c.index.result).now ≡ exit_at flow q = get_or_read flow.exits.items q (c.index.result).now c.requires.point c.index.ensures Passes in
-    let none = neither (c.index.result).now c.in-CallsOut.is in
+    let read : c.exit.result ≡ exit_at flow q = c.exit.ensures ∙ get_or_read flow.exits.items q (c.index.result).now c.requires.point c.index.ensures Passes in
+    let none = neither c.exit.result c.in-CallsOut.is in
     record {
       one_more = no_call flow c.args.self.now q c.requires.so_far c.requires.steps (λ entry e. none.0 entry (read ∙ e));
       search = leaving_no flow c.args.search.now q (λ e. none.1 (read ∙ e)) c.requires.search;

@@ -18,6 +18,6 @@ pub returns : goal.returns
 returns c =
     let flow = c.args.self.now in
     let q = c.args.q in
-    let read : (c.index.result).now ≡ entered_at flow q = get_or_read flow.entered.items q (c.index.result).now (omega (arith, c.requires.point, c.requires.shape.entered)) c.index.ensures None in
+    let read : c.entry.result ≡ entered_at flow q = c.entry.ensures ∙ get_or_read flow.entered.items q (c.index.result).now (omega (arith, c.requires.point, c.requires.shape.entered)) c.index.ensures None in
     let is : c.unwrap_or.result ≡ callee_at flow q = c.unwrap_or.ensures ∙ ap (λ (o : Option ℕ). unwrap_or o q) read in
     record { is = is; inside = subst (λ (n : ℕ). n < points_of flow) (sym is) (inside flow c.requires.shape q (entered_at flow q) refl c.requires.point) }
