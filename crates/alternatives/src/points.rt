@@ -12,6 +12,7 @@ ghost use Rattle.alternatives.specs.Points.{insn_of_point as insn_of_a_point, po
 ghost use Rattle.alternatives.specs.Texts.{text_bytes, AreShort, AscendBySection};
 
 use crate::insns::insn_of_point;
+use crate::near::{Blocks, OpenBlock};
 use crate::original::counts;
 use crate::point::Point;
 use crate::stored::StoredPoint;
@@ -190,6 +191,7 @@ fn limit_of(others: &[StoredPoint], n: usize, sec: u32) -> u64
 #[inline(always)]
 fn push_text(
     points: &mut Vec<StoredPoint>,
+    blocks: &mut Blocks,
     text: &SectionText<'_>,
     others: &[StoredPoint],
     from: usize,
@@ -201,17 +203,20 @@ fn push_text(
     let sec = text.sec;
     let mut next = from;
     let mut limit = limit_of(others, next, sec);
+    let mut block = OpenBlock::before_first();
     let offsets = text.text.offsets();
     for off in offsets {
         let off = u64::from(*off);
         let place = Place { sec, off };
-        let point = Point { place, variant: 0 };
+        let variant = 0;
         if off >= limit {
-            next = push_before(points, others, next, point)?;
+            next = push_before(points, others, next, Point { place, variant })?;
             limit = limit_of(others, next, sec);
         }
-        points.push(StoredPoint::new(point))?;
+        blocks.add(&mut block, place, points.len())?;
+        points.push(StoredPoint::new(Point { place, variant }))?;
     }
+    blocks.close(block);
     Ok(next)
 }
 
@@ -219,6 +224,7 @@ fn push_text(
 #[inline(never)]
 fn weave_points(
     alloc: Global,
+    blocks: &mut Blocks,
     texts: &[SectionText<'_>],
     others: &[StoredPoint],
 ) -> Result<Vec<StoredPoint>, NoMemory>
@@ -227,11 +233,12 @@ fn weave_points(
     let mut points = room_for(alloc, texts, others.len())?;
     let mut next = 0;
     for text in texts {
-        next = push_text(&mut points, text, others, next)?;
+        next = push_text(&mut points, blocks, text, others, next)?;
     }
     for n in next..others.len() {
         points.push(others[n])?;
     }
+    blocks.end(points.len());
     Ok(points)
 }
 
@@ -279,6 +286,7 @@ pub(crate) fn list_points(
     texts: &[SectionText<'_>],
     entries: &[AltEntry],
     plain: InsnList,
+    blocks: &mut Blocks,
 ) -> Result<Listed, NoMemory>
     requires ascending { AscendBySection texts.now }
     requires short { AreShort texts.now }
@@ -290,7 +298,7 @@ pub(crate) fn list_points(
     ensures few { IfOk result (λ l. length l.points.items ≤ text_bytes texts.now + 256 * length entries.now) }
 {
     let replaced = list_replaced(alloc, texts, entries)?;
-    let points = weave_points(alloc, texts, &replaced.points)?;
+    let points = weave_points(alloc, blocks, texts, &replaced.points)?;
     let mut insns = plain;
     weave_insns(&mut insns, &points, &replaced.insns)?;
     Ok(Listed { points, insns })

@@ -58,8 +58,8 @@ impl PointTable {
         ensures insns { IfOk result (λ t. map (λ insn. Some insn) t.insns ≡ map (insn_of_a_point texts.now entries.now) t.points) }
         ensures entries { IfOk result (λ t. t.entries ≡ entries.now) }
     {
-        let listed = list_points(alloc, texts, entries, insns)?;
-        let blocks = Blocks::of_points(alloc, listed.points.as_slice())?;
+        let mut blocks = Blocks::new(alloc);
+        let listed = list_points(alloc, texts, entries, insns, &mut blocks)?;
         let entries = entries.to_vec(alloc)?;
         Ok(PointTable {
             points: listed.points,

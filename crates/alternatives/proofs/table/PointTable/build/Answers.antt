@@ -35,6 +35,3 @@ invariant_of-result c =
       each = sym (length-map insns (λ (insn : Insn). Some insn)) ∙ mapped ∙ length-map points (insn_of_point texts entries);
       kept = subst (λ es. All (IsKept es) points) (sym same) (points_kept texts entries c.requires.short c.requires.right points (all_points texts entries points c.in_ok-listed.ensures.all));
     }
-
-pub of_points-requires : goal.of_points-requires
-of_points-requires c = omega (arith, c.in_ok-listed.ensures.few, c.requires.bytes, c.requires.few, ap length c.as_slice.ensures.value)
