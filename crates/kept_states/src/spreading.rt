@@ -275,7 +275,7 @@ pub(crate) fn spread_levels(graph: &Graph, passages: &[Passage], levels: &mut Le
 #[derive(Drop)]
 pub struct Scratch {
     levels: Levels,
-    /// How states pass the points, in 3 bytes each.
+    /// How states pass the points, in a byte each.
     passages: Vec<Passage>,
 }
 
