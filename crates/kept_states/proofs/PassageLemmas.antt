@@ -1,4 +1,5 @@
 -- How states pass points, told of one after another.
+use Rattle.std.specs.Prelude.{IsTrue}
 use Rattle.std.proofs.Common.{◌≡◌, ◌≢◌, ℕ, ◌+◌, ◌^◌, ◌<◌, ◌&&◌, Bool, true, false, not, Option, inl, inr, All, List, [], ◌∷◌, None, if◌then◌else◌, length, get_or, set, refl, sym, subst, arith, length-set}
 use Rattle.std.proofs.lemmas.List.{get_or-set_same, get_or-set_other}
 use Rattle.state_defs.specs.declared.state.State.{State}
@@ -77,3 +78,11 @@ brought_same s t op Sibling other e same = absurd (other refl)
 -- a Next to the next point leads to one that there is
 pub next_inside : (edges : List Edge) (n points : ℕ) → edges ≡ next_edge n ∷ [] → All (λ e. e.to < points) edges → n + 1 < points
 next_inside edges n points e within = (subst (λ (es : List Edge). All (λ e. e.to < points) es) e within) 0 (next_edge n) (omega arith)
+
+-- what is told of four at once is told of each
+pub each_of_four : (a b c d : Bool) → IsTrue (((a && b) && c) && d) → IsTrue a × IsTrue b × IsTrue c × IsTrue d
+each_of_four true true true true h = (refl, refl, refl, refl)
+each_of_four true true true false h = absurd (let bad : false ≡ true = h in cc)
+each_of_four true true false d h = absurd (let bad : false ≡ true = h in cc)
+each_of_four true false c d h = absurd (let bad : false ≡ true = h in cc)
+each_of_four false b c d h = absurd (let bad : false ≡ true = h in cc)
