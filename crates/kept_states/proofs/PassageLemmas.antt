@@ -1,4 +1,5 @@
 -- How states pass points, told of one after another.
+use Rattle.std.specs.Prelude.{IsTrue}
 use Rattle.std.proofs.Common.{◌≡◌, ◌≢◌, ℕ, ◌+◌, ◌^◌, ◌<◌, ◌&&◌, Bool, true, false, not, Option, inl, inr, All, List, [], ◌∷◌, None, if◌then◌else◌, length, get_or, set, refl, sym, subst, arith, length-set}
 use Rattle.std.proofs.lemmas.List.{get_or-set_same, get_or-set_other}
 use Rattle.state_defs.specs.declared.state.State.{State}
@@ -10,8 +11,7 @@ use Rattle.operation_defs.specs.declared.op.Op.{Op}
 use Rattle.state_defs.specs.Move.{move}
 use Rattle.machine_defs.specs.Kept.{brought_along, is_at_entry, moved, state_at}
 use Rattle.kept_states.specs.declared.passages.Passage.{Passage}
-use Rattle.kept_states.specs.declared.passages.Giving.TheVariants.{Straight}
-use Rattle.kept_states.specs.Passages.{AreLinked, AreToldBelow, IsPassage, next_edge}
+use Rattle.kept_states.specs.Passages.{AreLinked, AreToldBelow, IsPassage, comes_in, goes_straight_on, next_edge}
 use Rattle.kept_states.proofs.Places.{same_or_not}
 
 -- one more point is told of
@@ -25,28 +25,28 @@ told_more p passages n passage inside own told k d less = elim (same_or_not n k)
     below differ = elim (same_or_not n k) [ inl e ↦ absurd (differ e) | inr other ↦ (let h = other in grind arith) ]
 
 -- one more that states come in at, or that no point before it gives to alone
-pub linked_more : (passages : List Passage) (n : ℕ) (passage : Passage) → n < length passages → (passage.giving ≡ Straight → (n + 1 < 2 ^ 32) × (n + 1 < length passages)) → ((k : ℕ) (d : Passage) → k + 1 ≡ n → (get_or passages k d).giving ≡ Straight → passage.is_open ≡ true)
+pub linked_more : (passages : List Passage) (n : ℕ) (passage : Passage) → n < length passages → (goes_straight_on passage ≡ true → (n + 1 < 2 ^ 32) × (n + 1 < length passages)) → ((k : ℕ) (d : Passage) → k + 1 ≡ n → goes_straight_on (get_or passages k d) ≡ true → comes_in passage ≡ true)
     → AreLinked passages n → AreLinked (set passages n passage) (n + 1)
 linked_more passages n passage inside own before linked k d less straight = elim (same_or_not n k) [
   | inl e ↦ last e
-  | inr differ ↦ (let old = linked k d (below differ) (subst (λ (x : Passage). x.giving ≡ Straight) (get_or-set_other passages n k passage d differ) straight) in
+  | inr differ ↦ (let old = linked k d (below differ) (subst (λ (x : Passage). goes_straight_on x ≡ true) (get_or-set_other passages n k passage d differ) straight) in
       (old.0, rw (length-set) old.1, λ next. opens differ old.2 next))
 ]
   where
     below : k ≢ n → k < n
     below differ = let h = less in omega (arith, h, differ)
 
-    last : k ≡ n → (k + 1 < 2 ^ 32) × (k + 1 < length (set passages n passage)) × (k + 1 < n + 1 → (get_or (set passages n passage) (k + 1) d).is_open ≡ true)
+    last : k ≡ n → (k + 1 < 2 ^ 32) × (k + 1 < length (set passages n passage)) × (k + 1 < n + 1 → comes_in (get_or (set passages n passage) (k + 1) d) ≡ true)
     last e =
         let here : get_or (set passages n passage) k d ≡ passage = subst (λ (m : ℕ). get_or (set passages n passage) m d ≡ passage) (sym e) (get_or-set_same passages n passage d inside) in
-        let is = own (subst (λ (x : Passage). x.giving ≡ Straight) here straight) in
+        let is = own (subst (λ (x : Passage). goes_straight_on x ≡ true) here straight) in
         (omega (arith, is.0, e), rw (length-set) (omega (arith, is.1, e)), λ next. absurd (omega (arith, next, e)))
 
-    opens : k ≢ n → (k + 1 < n → (get_or passages (k + 1) d).is_open ≡ true) → k + 1 < n + 1 → (get_or (set passages n passage) (k + 1) d).is_open ≡ true
+    opens : k ≢ n → (k + 1 < n → comes_in (get_or passages (k + 1) d) ≡ true) → k + 1 < n + 1 → comes_in (get_or (set passages n passage) (k + 1) d) ≡ true
     opens differ old next = elim (same_or_not n (k + 1)) [
-      | inl e ↦ subst (λ (x : Passage). x.is_open ≡ true) (sym (subst (λ (m : ℕ). get_or (set passages n passage) m d ≡ passage) (sym e) (get_or-set_same passages n passage d inside)))
-          (before k d e (subst (λ (x : Passage). x.giving ≡ Straight) (get_or-set_other passages n k passage d differ) straight))
-      | inr other ↦ subst (λ (x : Passage). x.is_open ≡ true) (sym (get_or-set_other passages n (k + 1) passage d other)) (old (omega (arith, next, other)))
+      | inl e ↦ subst (λ (x : Passage). comes_in x ≡ true) (sym (subst (λ (m : ℕ). get_or (set passages n passage) m d ≡ passage) (sym e) (get_or-set_same passages n passage d inside)))
+          (before k d e (subst (λ (x : Passage). goes_straight_on x ≡ true) (get_or-set_other passages n k passage d differ) straight))
+      | inr other ↦ subst (λ (x : Passage). comes_in x ≡ true) (sym (get_or-set_other passages n (k + 1) passage d other)) (old (omega (arith, next, other)))
     ]
 
 pub open_gives : {X : Type 0} (unchecked free : Bool) (gifts : List X) → (not unchecked && free) ≡ true → (if unchecked then [] else (if free then gifts else [])) ≡ gifts
@@ -78,3 +78,11 @@ brought_same s t op Sibling other e same = absurd (other refl)
 -- a Next to the next point leads to one that there is
 pub next_inside : (edges : List Edge) (n points : ℕ) → edges ≡ next_edge n ∷ [] → All (λ e. e.to < points) edges → n + 1 < points
 next_inside edges n points e within = (subst (λ (es : List Edge). All (λ e. e.to < points) es) e within) 0 (next_edge n) (omega arith)
+
+-- what is told of four at once is told of each
+pub each_of_four : (a b c d : Bool) → IsTrue (((a && b) && c) && d) → IsTrue a × IsTrue b × IsTrue c × IsTrue d
+each_of_four true true true true h = (refl, refl, refl, refl)
+each_of_four true true true false h = absurd (let bad : false ≡ true = h in cc)
+each_of_four true true false d h = absurd (let bad : false ≡ true = h in cc)
+each_of_four true false c d h = absurd (let bad : false ≡ true = h in cc)
+each_of_four false b c d h = absurd (let bad : false ≡ true = h in cc)

@@ -1,14 +1,13 @@
 -- How states pass points, as far as that doesn't depend on them.
-use Rattle.std.specs.Prelude.{◌≡◌, ℕ, ◌+◌, ◌<◌, ◌^◌, ◌∷◌, [], ◌&&◌, not, true, List, None, length, slice_index_or}
+use Rattle.std.specs.Prelude.{◌≡◌, ℕ, ◌+◌, ◌<◌, ◌^◌, ◌∷◌, [], ◌&&◌, Bool, not, true, false, List, None, length, slice_index_or}
 use Rattle.machine_defs.specs.declared.flow.Edge.{Edge}
 use Rattle.machine_defs.specs.declared.flow.EdgeKind.TheVariants.{Next}
 use Rattle.machine_defs.specs.Program.{Program}
 use Rattle.machine_defs.specs.Kept.{edges_of, is_free, state_at}
 use Rattle.program_graph.specs.Tells.{Means}
 use Rattle.kept_states.specs.Neutral.{is_neutral}
-use Rattle.kept_states.specs.declared.passages.Giving.{Giving}
-use Rattle.kept_states.specs.declared.passages.Giving.TheVariants.{Straight, AlongEdges, Special}
 use Rattle.kept_states.specs.declared.passages.Passage.{Passage}
+use Rattle.kept_states.specs.declared.passages.Passage.TheVariants.{LastsStraight, MovesStraight, LastsAlongEdges, MovesAlongEdges, LastsSpecial, MovesSpecial, Closed}
 
 -- a Next to the next point
 abbrev pub next_edge : ℕ → Edge
@@ -19,17 +18,50 @@ pub record IsOrdinary (p : Program) (n : ℕ) : Type 0 where
   pub first : state_at p 0 n ≡ None
   pub meant : (r : ℕ) → Means p n r → ⊥
 
+-- whether states come in there along edges, whether the operation is told to leave them as they are, and whether what the point
+-- gives goes to the next one alone
+abbrev pub comes_in : Passage → Bool
+comes_in LastsStraight = true
+comes_in MovesStraight = true
+comes_in LastsAlongEdges = true
+comes_in MovesAlongEdges = true
+comes_in LastsSpecial = true
+comes_in MovesSpecial = true
+comes_in Closed = false
+
+abbrev pub lasts : Passage → Bool
+lasts LastsStraight = true
+lasts MovesStraight = false
+lasts LastsAlongEdges = true
+lasts MovesAlongEdges = false
+lasts LastsSpecial = true
+lasts MovesSpecial = false
+lasts Closed = false
+
+abbrev pub goes_straight_on : Passage → Bool
+goes_straight_on LastsStraight = true
+goes_straight_on MovesStraight = true
+goes_straight_on LastsAlongEdges = false
+goes_straight_on MovesAlongEdges = false
+goes_straight_on LastsSpecial = false
+goes_straight_on MovesSpecial = false
+goes_straight_on Closed = false
+
 -- to such points a point gives something
-abbrev pub GivesSo : Program → ℕ → Giving → Type 0
-GivesSo p n Straight = IsOrdinary p n × (edges_of p n ≡ next_edge n ∷ [])
-GivesSo p n AlongEdges = IsOrdinary p n
-GivesSo p n Special = Unit {0}
+abbrev pub GivesSo : Program → ℕ → Passage → Type 0
+GivesSo p n LastsStraight = IsOrdinary p n × (edges_of p n ≡ next_edge n ∷ [])
+GivesSo p n MovesStraight = IsOrdinary p n × (edges_of p n ≡ next_edge n ∷ [])
+GivesSo p n LastsAlongEdges = IsOrdinary p n
+GivesSo p n MovesAlongEdges = IsOrdinary p n
+GivesSo p n LastsSpecial = Unit {0}
+GivesSo p n MovesSpecial = Unit {0}
+GivesSo p n Closed = Unit {0}
 
 -- so states pass a point
 pub record IsPassage (p : Program) (n : ℕ) (passage : Passage) : Type 0 where
-  pub takes : passage.is_open ≡ (not (p.unchecked n) && is_free (p.hint n))
-  pub neutral : passage.is_neutral ≡ is_neutral (p.insn n).op
-  pub giving : GivesSo p n passage.giving
+  pub takes : comes_in passage ≡ (not (p.unchecked n) && is_free (p.hint n))
+  pub neutral : lasts passage ≡ true → is_neutral (p.insn n).op ≡ true
+  pub giving : GivesSo p n passage
 
 -- so they pass those below a number, of the points from 0 on that the list has
 abbrev pub AreToldBelow : Program → List Passage → ℕ → Type 0
@@ -41,7 +73,7 @@ ArePassages p passages = (n : ℕ) (d : Passage) → n < length passages → IsP
 
 -- Each of the points below a number that gives to the next one alone has it, and states come in there, as far as that is told of.
 abbrev pub AreLinked : List Passage → ℕ → Type 0
-AreLinked passages n = (k : ℕ) (d : Passage) → k < n → (slice_index_or passages k d).giving ≡ Straight → (k + 1 < 2 ^ 32) × (k + 1 < length passages) × (k + 1 < n → (slice_index_or passages (k + 1) d).is_open ≡ true)
+AreLinked passages n = (k : ℕ) (d : Passage) → k < n → goes_straight_on (slice_index_or passages k d) ≡ true → (k + 1 < 2 ^ 32) × (k + 1 < length passages) × (k + 1 < n → comes_in (slice_index_or passages (k + 1) d) ≡ true)
 
 -- What a point gives is what it brings to the next point along its one edge, where states come in.
 pub record IsStraight (p : Program) (n : ℕ) : Type 0 where

@@ -34,7 +34,7 @@ pub(crate) fn lasting_slot(
     ensures { (p : Program) → ArePassages p passages.now → IfSome result (Lasts p levels.now.kept from) }
 {
     let slot = levels.front_slot(i);
-    if passage_at(passages, from).is_neutral && !slot.is_wide() {
+    if passage_at(passages, from).is_lasting() && !slot.is_wide() {
         Some(slot)
     } else {
         None
@@ -220,7 +220,7 @@ pub(crate) fn give_along(
     ensures len { length levels.new.next.states ≡ length levels.old.next.states }
     ensures next { (p : Program) (s : State) → Tells p graph.now.parts → at levels.old.kept from ≡ Some s → levels.new.next ≡ offer_all levels.old.kept levels.old.next edge.to (given_along p s (p.insn from).op edge) }
 {
-    if passage_at(passages, edge.to).is_open {
+    if passage_at(passages, edge.to).is_open() {
         bring_along(graph, levels, i, from, lasting, edge);
     }
 }

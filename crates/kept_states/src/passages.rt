@@ -3,12 +3,13 @@
 //! What is told of all points stands in a list of its own, which is much shorter than the graph: while states spread, a
 //! level may have points far from each other, and most of them are passed without a look at the graph but for edges.
 
-ghost use Rattle.std.specs.Prelude.{◌≡◌, ◌≢◌, ◌+◌, ◌<◌, ◌^◌, ◌↔◌, ◌∷◌, ℕ, [], All, Contains, IfOk, IfSome, IsSome, IsTrue, None, false, length, not, slice_index_or, true};
+ghost use Rattle.std.specs.Prelude.{◌≡◌, ◌≢◌, ◌+◌, ◌<◌, ◌^◌, ◌↔◌, ◌∷◌, ◌&&◌, ℕ, [], All, Contains, IfOk, IfSome, IsSome, IsTrue, None, false, length, not, slice_index_or, true};
 ghost use Rattle.machine_defs.specs.Program.{Program};
 ghost use Rattle.machine_defs.specs.Kept.{edges_of, is_free as is_free_hint, state_at};
 ghost use Rattle.program_graph.specs.Tells.{Means, Tells};
+ghost use Rattle.kept_states.specs.Neutral.{is_neutral as is_neutral_op};
 ghost use Rattle.kept_states.specs.declared.passages.Passage.{Passage as PassageValue};
-ghost use Rattle.kept_states.specs.Passages.{AreLinked, ArePassages, AreToldBelow, GivesSo, IsPassage, IsStraight, next_edge};
+ghost use Rattle.kept_states.specs.Passages.{AreLinked, ArePassages, AreToldBelow, IsOrdinary, IsPassage, IsStraight, comes_in, goes_straight_on, next_edge};
 
 use crate::neutral::is_neutral;
 use machine_defs::{Edge, EdgeKind};
@@ -18,60 +19,91 @@ use program_graph::Graph;
 use state_defs::HintState;
 use std::alloc::Global;
 
-/// To which points a point gives something.
+/// How states pass a point. It is open where they come in along edges. They last where its operation leaves each of them as it
+/// is, and isn't a way out that a state has to allow; else they are told to move. And it gives something to other points.
 #[derive(Clone, Copy)]
-pub(crate) enum Giving {
-    /// To the next point alone, along its one edge, which is a Next, and states come in there. It isn't of level 0.
-    Straight,
-    /// To points at the ends of its edges. It isn't of level 0.
-    AlongEdges,
-    /// So too, and to a RESTORE if one means it; or it is of level 0. Few points are special.
-    Special,
+pub(crate) enum Passage {
+    /// Open, and they last. It gives to the next point alone, along its one edge, which is a Next, and states come in there.
+    /// It isn't of level 0.
+    LastsStraight,
+    /// So too, but they move.
+    MovesStraight,
+    /// Open, and they last. It gives to points at the ends of its edges. It isn't of level 0.
+    LastsAlongEdges,
+    /// So too, but they move.
+    MovesAlongEdges,
+    /// Open, and they last. It gives to points at the ends of its edges, and to a RESTORE if one means it; or it is of level 0.
+    LastsSpecial,
+    /// So too, but they move.
+    MovesSpecial,
+    /// Not open. It gives to points as a special one does.
+    Closed,
 }
 
-/// How states pass a point.
-#[derive(Clone, Copy)]
-pub(crate) struct Passage {
-    /// Whether they come in along edges.
-    pub(crate) is_open: bool,
-    /// Whether its operation leaves each state as it is, and isn't a way out that a state has to allow.
-    pub(crate) is_neutral: bool,
-    /// To which points it gives something.
-    pub(crate) giving: Giving,
-}
+const _: () = prove!(size_of::<Passage>() == 1);
 
 impl Passage {
-    /// Whether a point may be of level 0, or meant by a RESTORE.
+    /// Whether states come in along edges.
+    pub(crate) fn is_open(self) -> bool
+        ensures { result ≡ comes_in self }
+    {
+        match self {
+            Passage::LastsStraight
+            | Passage::MovesStraight
+            | Passage::LastsAlongEdges
+            | Passage::MovesAlongEdges
+            | Passage::LastsSpecial
+            | Passage::MovesSpecial => true,
+            Passage::Closed => false,
+        }
+    }
+
+    /// Whether a point's operation is told to leave each state as it is, and not to be a way out that a state has to allow.
+    pub(crate) fn is_lasting(self) -> bool
+        ensures { IsTrue result → (p : Program) (n : ℕ) → IsPassage p n self → is_neutral_op (p.insn n).op ≡ true }
+    {
+        match self {
+            Passage::LastsStraight | Passage::LastsAlongEdges | Passage::LastsSpecial => true,
+            Passage::MovesStraight
+            | Passage::MovesAlongEdges
+            | Passage::MovesSpecial
+            | Passage::Closed => false,
+        }
+    }
+
+    /// Whether a point may be of level 0, or meant by a RESTORE. Few points are special.
     pub(crate) fn is_special(self) -> bool
         ensures first { result ≡ false → (p : Program) (n : ℕ) → IsPassage p n self → state_at p 0 n ≡ None }
         ensures meant { result ≡ false → (p : Program) (n : ℕ) → IsPassage p n self → (r : ℕ) → Means p n r → ⊥ }
     {
-        match self.giving {
-            Giving::Straight | Giving::AlongEdges => false,
-            Giving::Special => true,
+        match self {
+            Passage::LastsStraight
+            | Passage::MovesStraight
+            | Passage::LastsAlongEdges
+            | Passage::MovesAlongEdges => false,
+            Passage::LastsSpecial | Passage::MovesSpecial | Passage::Closed => true,
         }
     }
 
     /// Whether a point gives something to the next point alone.
     pub(crate) fn is_straight(self) -> bool
+        ensures straight { result ≡ goes_straight_on self }
         ensures edges { IsTrue result → (p : Program) (n : ℕ) → IsPassage p n self → edges_of p n ≡ next_edge n ∷ [] }
         ensures meant { IsTrue result → (p : Program) (n : ℕ) → IsPassage p n self → (r : ℕ) → Means p n r → ⊥ }
     {
-        match self.giving {
-            Giving::Straight => true,
-            Giving::AlongEdges | Giving::Special => false,
+        match self {
+            Passage::LastsStraight | Passage::MovesStraight => true,
+            Passage::LastsAlongEdges
+            | Passage::MovesAlongEdges
+            | Passage::LastsSpecial
+            | Passage::MovesSpecial
+            | Passage::Closed => false,
         }
     }
 }
 
-const _: () = prove!(size_of::<Passage>() == 3);
-
 /// That of a point of which nothing is told yet.
-const UNTOLD: Passage = Passage {
-    is_open: false,
-    is_neutral: false,
-    giving: Giving::Special,
-};
+const UNTOLD: Passage = Passage::Closed;
 
 /// Whether states come in along edges at a point with this hint.
 fn is_free(hint: Option<HintState>) -> bool
@@ -125,16 +157,19 @@ pub(crate) fn lead_straight(edges: &[Edge], n: u32) -> bool
     }
 }
 
-/// To which points a point gives something, as it is told of one that is rare.
-fn rare_giving(graph: &Graph, n: u32) -> Giving
-    requires { n < length graph.now.parts.points.items }
-    ensures so { (p : Program) → Tells p graph.now.parts → GivesSo p n result }
-    ensures not_straight { result ≢ Giving.Straight }
+/// How states pass an open point that is rare, with this operation.
+fn open_passage(graph: &Graph, n: u32, op: Op) -> Passage
+    requires point { n < length graph.now.parts.points.items }
+    requires op { (p : Program) → Tells p graph.now.parts → op ≡ (p.insn n).op }
+    requires taken { (p : Program) → Tells p graph.now.parts → (not (p.unchecked n) && is_free_hint (p.hint n)) ≡ true }
+    ensures passage { (p : Program) → Tells p graph.now.parts → IsPassage p n result }
+    ensures not_straight { goes_straight_on result ≡ false }
 {
-    if is_special(graph, n) {
-        Giving::Special
-    } else {
-        Giving::AlongEdges
+    match (is_neutral(op), is_special(graph, n)) {
+        (true, true) => Passage::LastsSpecial,
+        (true, false) => Passage::LastsAlongEdges,
+        (false, true) => Passage::MovesSpecial,
+        (false, false) => Passage::MovesAlongEdges,
     }
 }
 
@@ -143,26 +178,41 @@ pub(crate) fn rare_passage(graph: &Graph, n: u32, is_checked: bool) -> Passage
     requires point { n < length graph.now.parts.points.items }
     requires checked { (p : Program) → Tells p graph.now.parts → is_checked ≡ not (p.unchecked n) }
     ensures passage { (p : Program) → Tells p graph.now.parts → IsPassage p n result }
-    ensures not_straight { result.giving ≢ Giving.Straight }
+    ensures not_straight { goes_straight_on result ≡ false }
 {
-    Passage {
-        is_open: is_checked && takes_states(graph, n),
-        is_neutral: is_neutral(graph.insn(n).op),
-        giving: rare_giving(graph, n),
+    if !is_checked {
+        return Passage::Closed;
+    }
+    if !takes_states(graph, n) {
+        return Passage::Closed;
+    }
+    open_passage(graph, n, graph.insn(n).op)
+}
+
+/// How states pass a usual point with this operation, whose owner is checked, where it gives to the next one alone.
+#[inline(always)]
+pub(crate) fn straight_passage(op: Op) -> Passage
+    ensures passage { (p : Program) (n : ℕ) → op ≡ (p.insn n).op → p.unchecked n ≡ false → p.hint n ≡ None → IsOrdinary p n → edges_of p n ≡ next_edge n ∷ [] → IsPassage p n result }
+    ensures is_open { comes_in result ≡ true }
+{
+    if is_neutral(op) {
+        Passage::LastsStraight
+    } else {
+        Passage::MovesStraight
     }
 }
 
-/// How states pass a usual point with this operation, whose owner is checked, and which gives to such points.
+/// How states pass a usual point with this operation, whose owner is checked, where it gives to points along its edges.
 #[inline(always)]
-pub(crate) fn usual_passage(op: Op, giving: Giving) -> Passage
-    ensures passage { (p : Program) (n : ℕ) → op ≡ (p.insn n).op → p.unchecked n ≡ false → p.hint n ≡ None → GivesSo p n giving → IsPassage p n result }
-    ensures is_open { result.is_open ≡ true }
-    ensures giving { result.giving ≡ giving }
+pub(crate) fn usual_passage(op: Op) -> Passage
+    ensures passage { (p : Program) (n : ℕ) → op ≡ (p.insn n).op → p.unchecked n ≡ false → p.hint n ≡ None → IsOrdinary p n → IsPassage p n result }
+    ensures is_open { comes_in result ≡ true }
+    ensures not_straight { goes_straight_on result ≡ false }
 {
-    Passage {
-        is_open: true,
-        is_neutral: is_neutral(op),
-        giving,
+    if is_neutral(op) {
+        Passage::LastsAlongEdges
+    } else {
+        Passage::MovesAlongEdges
     }
 }
 
@@ -190,10 +240,7 @@ pub(crate) fn goes_straight(passages: &[Passage], n: u32) -> bool
     ensures fits { IsTrue result → n + 1 < 2 ^ 32 }
     ensures straight { IsTrue result → (p : Program) → ArePassages p passages.now → IsStraight p n }
 {
-    match passages[n as usize].giving {
-        Giving::Straight => true,
-        Giving::AlongEdges | Giving::Special => false,
-    }
+    passages[n as usize].is_straight()
 }
 
 /// Lets a point give along its edges that may be told to give to the next one alone, where none comes in.
@@ -202,17 +249,17 @@ fn unlink(passages: &mut Vec<Passage>, n: u32)
     ensures passages { length passages.new.items ≡ length passages.old.items }
     ensures told { (p : Program) (m : ℕ) → AreToldBelow p passages.old.items m → AreToldBelow p passages.new.items m }
     ensures linked { (m : ℕ) → AreLinked passages.old.items m → AreLinked passages.new.items m }
-    ensures unlinked { (d : PassageValue) → (slice_index_or passages.new.items n d).giving ≢ Giving.Straight }
+    ensures unlinked { (d : PassageValue) → goes_straight_on (slice_index_or passages.new.items n d) ≡ false }
 {
     let passage = passages[n as usize];
-    match passage.giving {
-        Giving::Straight => {
-            passages[n as usize] = Passage {
-                giving: Giving::AlongEdges,
-                ..passage
-            };
-        }
-        Giving::AlongEdges | Giving::Special => {}
+    match passage {
+        Passage::LastsStraight => passages[n as usize] = Passage::LastsAlongEdges,
+        Passage::MovesStraight => passages[n as usize] = Passage::MovesAlongEdges,
+        Passage::LastsAlongEdges
+        | Passage::MovesAlongEdges
+        | Passage::LastsSpecial
+        | Passage::MovesSpecial
+        | Passage::Closed => {}
     }
 }
 
@@ -222,7 +269,7 @@ fn unlink_before(passages: &mut Vec<Passage>, n: u32)
     ensures passages { length passages.new.items ≡ length passages.old.items }
     ensures told { (p : Program) (m : ℕ) → AreToldBelow p passages.old.items m → AreToldBelow p passages.new.items m }
     ensures linked { (m : ℕ) → AreLinked passages.old.items m → AreLinked passages.new.items m }
-    ensures unlinked { (k : ℕ) (d : PassageValue) → k + 1 ≡ n → (slice_index_or passages.new.items k d).giving ≢ Giving.Straight }
+    ensures unlinked { (k : ℕ) (d : PassageValue) → k + 1 ≡ n → goes_straight_on (slice_index_or passages.new.items k d) ≡ false }
 {
     if n > 0 {
         unlink(passages, n - 1);
@@ -233,8 +280,8 @@ fn unlink_before(passages: &mut Vec<Passage>, n: u32)
 #[inline(always)]
 pub(crate) fn tell_linked(passages: &mut Vec<Passage>, n: u32, passage: Passage)
     requires inside { n < length passages.old.items }
-    requires own { passage.giving ≡ Giving.Straight → (n + 1 < 2 ^ 32) × (n + 1 < length passages.old.items) }
-    requires before { (k : ℕ) (d : PassageValue) → k + 1 ≡ n → (slice_index_or passages.old.items k d).giving ≡ Giving.Straight → passage.is_open ≡ true }
+    requires own { goes_straight_on passage ≡ true → (n + 1 < 2 ^ 32) × (n + 1 < length passages.old.items) }
+    requires before { (k : ℕ) (d : PassageValue) → k + 1 ≡ n → goes_straight_on (slice_index_or passages.old.items k d) ≡ true → comes_in passage ≡ true }
     ensures passages { length passages.new.items ≡ length passages.old.items }
     ensures told { (p : Program) → AreToldBelow p passages.old.items n → IsPassage p n passage → AreToldBelow p passages.new.items (n + 1) }
     ensures linked { AreLinked passages.old.items n → AreLinked passages.new.items (n + 1) }
@@ -245,12 +292,12 @@ pub(crate) fn tell_linked(passages: &mut Vec<Passage>, n: u32, passage: Passage)
 /// Tells how states pass the next point, which doesn't give to the one behind it alone.
 pub(crate) fn tell_passage(passages: &mut Vec<Passage>, n: u32, passage: Passage)
     requires inside { n < length passages.old.items }
-    requires own { passage.giving ≢ Giving.Straight }
+    requires own { goes_straight_on passage ≡ false }
     ensures passages { length passages.new.items ≡ length passages.old.items }
     ensures told { (p : Program) → AreToldBelow p passages.old.items n → IsPassage p n passage → AreToldBelow p passages.new.items (n + 1) }
     ensures linked { AreLinked passages.old.items n → AreLinked passages.new.items (n + 1) }
 {
-    if passage.is_open {
+    if passage.is_open() {
         tell_linked(passages, n, passage);
     } else {
         unlink_before(passages, n);

@@ -7,7 +7,7 @@ ghost use Rattle.kept_states.specs.Passages.{AreLinked, AreToldBelow};
 
 use crate::alike::FEW_EDGES;
 use crate::passages::{
-    Giving, Passage, lead_straight, passage_at, rare_passage, tell_linked, tell_passage,
+    Passage, lead_straight, passage_at, rare_passage, straight_passage, tell_linked, tell_passage,
     usual_passage,
 };
 use machine_defs::{Edge, EdgeKind};
@@ -152,10 +152,10 @@ fn tell_point(
     };
     let edges = graph.successors(n);
     if lead_straight(edges, n) {
-        tell_linked(passages, n, usual_passage(op, Giving::Straight));
+        tell_linked(passages, n, straight_passage(op));
         return false;
     }
-    tell_linked(passages, n, usual_passage(op, Giving::AlongEdges));
+    tell_linked(passages, n, usual_passage(op));
     leads_away(graph, n, from, edges)
 }
 

@@ -181,21 +181,28 @@ fn is_ordinary(passages: &[Passage], n: usize) -> bool
 
 /// Whether none of four neighbouring points is special.
 #[inline(always)]
-fn are_ordinary(passages: &[Passage], n: u32) -> bool
+fn are_ordinary(passages: &[Passage], n: usize) -> bool
     requires { n + 4 ≤ length passages.now }
     ensures { IsTrue result → (p : Program) → ArePassages p passages.now → (q : ℕ) → n ≤ q → q < n + 4 → state_at p 0 q ≡ None }
 {
-    let n = n as usize;
-    if !is_ordinary(passages, n) {
-        return false;
-    }
-    if !is_ordinary(passages, n + 1) {
-        return false;
-    }
-    if !is_ordinary(passages, n + 2) {
-        return false;
-    }
-    is_ordinary(passages, n + 3)
+    let first = is_ordinary(passages, n);
+    let second = is_ordinary(passages, n + 1);
+    let third = is_ordinary(passages, n + 2);
+    let fourth = is_ordinary(passages, n + 3);
+    first & second & third & fourth
+}
+
+/// Whether none of sixteen neighbouring points is special.
+#[inline(always)]
+fn are_all_ordinary(passages: &[Passage], n: usize) -> bool
+    requires { n + 16 ≤ length passages.now }
+    ensures { IsTrue result → (p : Program) → ArePassages p passages.now → (q : ℕ) → n ≤ q → q < n + 16 → state_at p 0 q ≡ None }
+{
+    let first = are_ordinary(passages, n);
+    let second = are_ordinary(passages, n + 4);
+    let third = are_ordinary(passages, n + 8);
+    let fourth = are_ordinary(passages, n + 12);
+    first & second & third & fourth
 }
 
 /// Offers each point its state of level 0 that was offered none yet. Few points are special.
@@ -216,7 +223,9 @@ fn offer_all_first(graph: &Graph, passages: &[Passage], levels: &mut Levels)
         if n == points {
             return;
         }
-        if 4 <= points - n && are_ordinary(passages, n) {
+        if 16 <= points - n && are_all_ordinary(passages, n as usize) {
+            n += 16;
+        } else if 4 <= points - n && are_ordinary(passages, n as usize) {
             n += 4;
         } else {
             offer_missing_first(graph, passages, levels, n);
@@ -275,7 +284,7 @@ pub(crate) fn spread_levels(graph: &Graph, passages: &[Passage], levels: &mut Le
 #[derive(Drop)]
 pub struct Scratch {
     levels: Levels,
-    /// How states pass the points, in 3 bytes each.
+    /// How states pass the points, in a byte each.
     passages: Vec<Passage>,
 }
 

@@ -10,7 +10,7 @@ returns-then-lead_straight-clause-told c p t told =
     let ordinary : IsOrdinary p c.args.n = record { first = not_first p c.args.n (some.hint refl p t) (some.entered refl p t); meant = some.meant refl p t } in
     let checked : p.unchecked c.args.n ≡ false = (let h = c.requires.checked p t in let i = c.if-not-is_checked.false in grind arith) in
     c.tell_linked.ensures.told p told
-    (c.usual_passage.ensures.passage p c.args.n (some.op p t) checked (some.hint refl p t) (ordinary, sym (c.successors-edges.ensures.edges p t) ∙ c.if-lead_straight.ensures.edges refl))
+    (c.straight_passage.ensures.passage p c.args.n (some.op p t) checked (some.hint refl p t) ordinary (sym (c.successors-edges.ensures.edges p t) ∙ c.if-lead_straight.ensures.edges refl))
 
 pub returns-clause-told : goal.returns-clause-told
 returns-clause-told c p t told =
@@ -18,7 +18,7 @@ returns-clause-told c p t told =
     let ordinary : IsOrdinary p c.args.n = record { first = not_first p c.args.n (some.hint refl p t) (some.entered refl p t); meant = some.meant refl p t } in
     let checked : p.unchecked c.args.n ≡ false = (let h = c.requires.checked p t in let i = c.if-not-is_checked.false in grind arith) in
     c.tell_linked-2.ensures.told p told
-    (c.usual_passage-2.ensures.passage p c.args.n (some.op p t) checked (some.hint refl p t) ordinary)
+    (c.usual_passage.ensures.passage p c.args.n (some.op p t) checked (some.hint refl p t) ordinary)
 
 pub tell_linked-requires-clause-own : goal.tell_linked-requires-clause-own
 tell_linked-requires-clause-own c straight =

@@ -41,3 +41,19 @@ points-preserved-then-are_ordinary c =
       ];
       others = c.points.invariant.others;
     }
+
+pub points-preserved-then-are_all_ordinary : goal.points-preserved-then-are_all_ordinary
+points-preserved-then-are_all_ordinary c =
+    let n : ℕ = c.points.n in
+    let new : List (Option State) = c.points.levels.next.states in
+    record {
+      inside = search rules;
+      kept = c.points.invariant.kept;
+      next = c.points.invariant.next;
+      first = λ p t q less. elim (within q n) [
+        | inl below ↦ c.points.invariant.first p t q below
+        | inr behind ↦ (let none : state_at p 0 q ≡ None = c.are_all_ordinary.ensures c.if-are_all_ordinary.true p (c.requires.told p t) q behind less in
+            none_of (at new q) (λ some. not_none (at new q) (c.points.invariant.others p t q (search rules) some ∙ none) some) ∙ sym none)
+      ];
+      others = c.points.invariant.others;
+    }
