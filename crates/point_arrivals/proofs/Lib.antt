@@ -10,3 +10,4 @@ mod AllRooms
 pub mod Tableless
 pub mod StraightOn
 mod Untold
+mod ByCourse

@@ -54,7 +54,7 @@ off_part a b i d e j same = grind (arith, nat_tests)
 variant_part : (a b i d e j : ℕ) → ((eqb a d && eqb b e) && eqb i j) ≡ true → i ≡ j
 variant_part a b i d e j same = grind (arith, nat_tests)
 
-one_point : (p q : Point) → same_point p q ≡ true → p ≡ q
+pub one_point : (p q : Point) → same_point p q ≡ true → p ≡ q
 one_point p q same =
     order.same_point p.place.sec p.place.off p.variant q
     (sec_part p.place.sec p.place.off p.variant q.place.sec q.place.off q.variant same)

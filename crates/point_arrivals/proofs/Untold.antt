@@ -20,9 +20,8 @@ use Rattle.point_arrivals.specs.Kinds.{kind_of}
 use Rattle.point_arrivals.specs.Lists.{branch_places_of, fix_places_of, original_places_of, told_places_of}
 use Rattle.point_arrivals.specs.Marks.{is_listed}
 use Rattle.point_arrivals.specs.Straight.{end_of, ends_at_next, is_next_at, is_straight_insn, is_straight_op}
-use Rattle.point_arrivals.specs.declared.kind.Kind.TheVariants.{Unlisted}
 use Rattle.point_arrivals.proofs.Ending.{other_passes}
-use Rattle.point_arrivals.proofs.KindOf.{kind_by, kind_is, unlisted_is}
+use Rattle.point_arrivals.proofs.KindOf.{kind_by, kind_is}
 
 -- what isn't among two lists is in neither
 among_neither : (xs ys : List Place) (place : Place) → is_among (xs ++ ys) place ≡ false → (is_among xs place ≡ false) × (is_among ys place ≡ false)
@@ -132,6 +131,3 @@ module _ (o : Coded) (n : ℕ) (told : List Place) (same : HaveSamePlaces (told_
 
   pub followed_untold : (straight : Bool) → (is_plain (point_at o n) && is_next_at o n (end_of o n)) ≡ true → is_straight_insn o n ≡ straight → kind_by false true straight ≡ kind_of o n
   followed_untold straight plain insn = kind_is o n true straight unlisted (next true plain) insn
-
-  pub other_untold : (is_plain (point_at o n) && is_next_at o n (end_of o n)) ≡ false → Unlisted ≡ kind_of o n
-  other_untold other_place = unlisted_is o n unlisted (next false other_place)

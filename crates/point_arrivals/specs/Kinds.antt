@@ -4,6 +4,8 @@ use Rattle.flow_defs.specs.Coded.{Coded}
 use Rattle.flow_defs.specs.Code.{point_at}
 use Rattle.point_arrivals.specs.Marks.{is_listed}
 use Rattle.point_arrivals.specs.Straight.{ends_at_next, is_straight_insn}
+use Rattle.point_arrivals.specs.declared.course.Course.{Course}
+use Rattle.point_arrivals.specs.declared.course.Course.TheVariants as course
 use Rattle.point_arrivals.specs.declared.kind.Kind.{Kind}
 use Rattle.point_arrivals.specs.declared.kind.Kind.TheVariants.{Straight, Followed, Unlisted, Listed}
 
@@ -26,6 +28,12 @@ is_followed_kind _ = false
 abbrev pub is_listed_kind : Kind → Bool
 is_listed_kind Listed = true
 is_listed_kind _ = false
+
+-- that of a point with a course, where the next one alone follows it and no list says anything of it
+abbrev pub IsFollowedKind : Course → Kind → Type 0
+IsFollowedKind course.Straight kind = kind ≡ Straight
+IsFollowedKind course.Turn kind = kind ≡ Followed
+IsFollowedKind _ kind = ⊥
 
 -- those of the first points
 pub record AreKinds (o : Coded) (kinds : List Kind) (n : ℕ) : Type 0 where

@@ -5,3 +5,5 @@ pub mod Lists
 pub mod Marks
 pub mod Straight
 pub mod Kinds
+pub mod Courses
+pub mod Seen

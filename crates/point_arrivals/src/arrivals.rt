@@ -7,6 +7,8 @@ ghost use Rattle.flow_defs.specs.Edges.{fixups as fixups_of, static_targets as s
 ghost use Rattle.point_arrivals.specs.Kinds.{kind_of};
 ghost use Rattle.point_arrivals.specs.Straight.{is_straight as is_straight_point, IsStraight};
 
+use crate::course::list_courses;
+use crate::courses::Courses;
 use crate::kind::Kind;
 use crate::kinds::list_kinds;
 use crate::lists::PointLists;
@@ -53,8 +55,14 @@ impl<'l, 'o, 'a> PointArrivals<'l, 'o, 'a> {
     ) -> Result<PointArrivals<'l, 'o, 'a>, NoMemory>
         ensures { IfOk result (λ arrivals. arrivals ≡ places.entry) }
     {
-        let lists = PointLists::build(alloc, places)?;
-        let kinds = list_kinds(alloc, &lists)?;
+        let insns = places.numbered_insns();
+        let courses = list_courses(alloc, insns.kinds)?;
+        let courses = Courses {
+            kinds: &courses,
+            numbers: insns.numbers,
+        };
+        let lists = PointLists::build(alloc, places, courses)?;
+        let kinds = list_kinds(alloc, &lists, courses)?;
         Ok(PointArrivals { lists, kinds })
     }
 

@@ -5,6 +5,8 @@
 mod arrivals;
 mod arrive;
 mod behind;
+mod course;
+mod courses;
 mod kind;
 mod kinds;
 mod listed;

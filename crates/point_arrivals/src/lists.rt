@@ -6,20 +6,20 @@ ghost use Rattle.special_sections.specs.Special.{special_of};
 ghost use Rattle.flow_defs.specs.Code.{point_at, points_of_object};
 ghost use Rattle.flow_defs.specs.Edges.{fixups as fixups_of, is_some_place, static_targets as static_targets_of};
 ghost use Rattle.object_points.specs.Places.{HaveSamePlaces};
-ghost use Rattle.point_arrivals.specs.Kinds.{kind_of};
+ghost use Rattle.point_arrivals.specs.Courses.{AreCourses};
 ghost use Rattle.point_arrivals.specs.Lists.{AreListsOf, told_places_of};
 ghost use Rattle.point_arrivals.specs.Marks.{is_listed as is_listed_point};
 ghost use Rattle.point_arrivals.specs.Straight.{ends_at_next as ends_at_next_point};
 
 use crate::arrive::{arrive, arrive_alone};
 use crate::behind::{after, end_of, is_at_end};
-use crate::kind::Kind;
+use crate::courses::Courses;
 use crate::listed::{ListedPairs, ListedPlaces, list_pairs, list_places};
 use crate::low::points_are_low;
 use crate::remade::insn;
 use crate::rooms::{list_rooms, makes_room};
 use crate::straight::ends_at_next;
-use crate::told::{told_places, untold_kind};
+use crate::told::told_places;
 use object_points::{PlaceMap, PlaceSet, PointPlaces};
 use operation_defs::{Insn, Op};
 use ot_base::{NoMemory, Place};
@@ -63,14 +63,19 @@ struct Listed {
 }
 
 /// All lists of places of an object.
-fn list_all(alloc: Global, places: &PointPlaces<'_, '_, '_>) -> Result<Listed, NoMemory>
+fn list_all(
+    alloc: Global,
+    places: &PointPlaces<'_, '_, '_>,
+    courses: Courses<'_>,
+) -> Result<Listed, NoMemory>
+    requires { AreCourses places.now courses.kinds.now courses.numbers.now }
     ensures { IfOk result (λ l. AreListsOf places.now l.places.originals l.places.reachable l.places.unreachable l.places.intra_calls l.pairs.branches l.pairs.fixes l.rooms.items) }
 {
     let special = places.linked().special();
     Ok(Listed {
         places: list_places(alloc, special)?,
         pairs: list_pairs(alloc, special)?,
-        rooms: list_rooms(alloc, places)?,
+        rooms: list_rooms(alloc, places, courses)?,
     })
 }
 
@@ -79,7 +84,9 @@ impl<'l, 'o, 'a> PointLists<'l, 'o, 'a> {
     pub(crate) fn build(
         alloc: Global,
         places: PointPlaces<'l, 'o, 'a>,
+        courses: Courses<'_>,
     ) -> Result<PointLists<'l, 'o, 'a>, NoMemory>
+        requires { AreCourses places courses.kinds.now courses.numbers.now }
         ensures { IfOk result (λ lists. lists ≡ places.entry) }
     {
         points_are_low(places.linked());
@@ -92,7 +99,7 @@ impl<'l, 'o, 'a> PointLists<'l, 'o, 'a> {
             },
             pairs: ListedPairs { branches, fixes },
             rooms,
-        } = list_all(alloc, &places)?;
+        } = list_all(alloc, &places, courses)?;
         Ok(PointLists {
             places,
             originals,
@@ -253,16 +260,6 @@ impl<'l, 'o, 'a> PointLists<'l, 'o, 'a> {
     {
         told_places(alloc, &self.places)
     }
-
-    /// Of which kind a point is, where these places alone tell it.
-    #[inline(always)]
-    pub(crate) fn untold_kind(&self, told: &PlaceSet, n: u32) -> Option<Kind>
-        requires told { HaveSamePlaces (told_places_of self.now) told.now }
-        requires point { n < length (points_of_object self.now) }
-        ensures { IfSome result (λ kind. kind ≡ kind_of self.now n) }
-    {
-        untold_kind(&self.places, told, n)
-    }
 }
 
 /// Whether there is a place among these.
@@ -273,7 +270,7 @@ fn has_place(places: &[Place]) -> bool
 }
 
 /// Whether an operation is a Ud2.
-pub(crate) fn is_ud2(op: Op) -> bool
+fn is_ud2(op: Op) -> bool
     ensures { result ≡ is_an_ud2 op }
 {
     matches!(op, Op::Ud2)

@@ -2,29 +2,24 @@
 
 ghost use Rattle.std.specs.Prelude.{◌≡◌, ◌<◌, length, filter_map, IfOk};
 ghost use Rattle.std.specs.List.{range_with_len};
-ghost use Rattle.flow_defs.specs.Arrival.{is_room as is_room_op, makes_room as makes_a_room};
+ghost use Rattle.flow_defs.specs.Arrival.{makes_room as makes_a_room};
 ghost use Rattle.flow_defs.specs.Code.{point_at, points_of_object};
 ghost use Rattle.flow_defs.specs.Owners.{owner_of_point};
+ghost use Rattle.point_arrivals.specs.Courses.{AreCourses};
 ghost use Rattle.point_arrivals.specs.Remade.{AreRooms, room_owner as room_owner_of};
 
+use crate::courses::{Courses, course_at};
 use object_points::{PointPlaces, is_among};
-use operation_defs::Op;
 use ot_base::NoMemory;
 use std::alloc::Global;
 
-/// Whether an operation makes room.
-fn is_room(op: Op) -> bool
-    ensures { result ≡ is_room_op op }
-{
-    matches!(op, Op::SubSp | Op::SpReg)
-}
-
 /// The owner of a point that makes room. Others have none here.
-fn room_owner(places: &PointPlaces<'_, '_, '_>, n: u32) -> Option<u32>
-    requires { n < length (points_of_object places.now) }
+fn room_owner(places: &PointPlaces<'_, '_, '_>, courses: Courses<'_>, n: u32) -> Option<u32>
+    requires courses { AreCourses places.now courses.kinds.now courses.numbers.now }
+    requires point { n < length (points_of_object places.now) }
     ensures { result ≡ room_owner_of places.now n }
 {
-    if is_room(places.decoded_insn(n).op) {
+    if course_at(places, courses, n).course.is_room() {
         places.owner(n)
     } else {
         None
@@ -32,12 +27,17 @@ fn room_owner(places: &PointPlaces<'_, '_, '_>, n: u32) -> Option<u32>
 }
 
 /// The owners of the points that make room, in the order of these points.
-fn room_owners(alloc: Global, places: &PointPlaces<'_, '_, '_>) -> Result<Vec<u32>, NoMemory>
+fn room_owners(
+    alloc: Global,
+    places: &PointPlaces<'_, '_, '_>,
+    courses: Courses<'_>,
+) -> Result<Vec<u32>, NoMemory>
+    requires { AreCourses places.now courses.kinds.now courses.numbers.now }
     ensures { IfOk result (λ owners. owners.items ≡ filter_map (room_owner_of places.now) (range_with_len 0 (length (points_of_object places.now)))) }
 {
     let mut owners = Vec::new(alloc);
     for n in 0..places.linked().sites().point_count() {
-        if let Some(owner) = room_owner(places, n) {
+        if let Some(owner) = room_owner(places, courses, n) {
             owners.push(owner)?;
         }
     }
@@ -48,10 +48,12 @@ fn room_owners(alloc: Global, places: &PointPlaces<'_, '_, '_>) -> Result<Vec<u3
 pub(crate) fn list_rooms(
     alloc: Global,
     places: &PointPlaces<'_, '_, '_>,
+    courses: Courses<'_>,
 ) -> Result<Vec<u32>, NoMemory>
+    requires { AreCourses places.now courses.kinds.now courses.numbers.now }
     ensures { IfOk result (λ owners. AreRooms places.now owners.items) }
 {
-    let mut owners = room_owners(alloc, places)?;
+    let mut owners = room_owners(alloc, places, courses)?;
     owners.sort()?;
     Ok(owners)
 }

@@ -66,7 +66,7 @@ fn is_straight_without_offset(op: Op) -> bool
 
 /// Whether a point is the plain one at a place.
 #[inline(always)]
-fn is_plain_at(point: Point, place: Place) -> bool
+pub(crate) fn is_plain_at(point: Point, place: Place) -> bool
     ensures { result ≡ same_point point (plain_point place) }
 {
     point.place.sec == place.sec && point.place.off == place.off && point.variant == 0

@@ -1,20 +1,22 @@
 //! Places of which an object's lists say something, and the kinds of the points of whose places none does.
 
-ghost use Rattle.std.specs.Prelude.{◌≡◌, ◌<◌, false, length, IfOk, IfSome};
-ghost use Rattle.flow_defs.specs.Arrival.{is_ud2 as is_an_ud2};
-ghost use Rattle.flow_defs.specs.Code.{points_of_object};
+ghost use Rattle.std.specs.Prelude.{◌≡◌, ◌+◌, ◌<◌, ◌≤◌, ◌&&◌, length, IfOk, IfSome};
+ghost use Rattle.alternatives.specs.Texts.{behind};
+ghost use Rattle.flow_defs.specs.Arrival.{decoded_insn};
+ghost use Rattle.flow_defs.specs.Code.{is_plain, plain_point, point_at, points_of_object, same_point};
 ghost use Rattle.object_points.specs.Places.{HaveSamePlaces};
-ghost use Rattle.point_arrivals.specs.Kinds.{kind_of};
+ghost use Rattle.point_arrivals.specs.Courses.{course_of_insn};
+ghost use Rattle.point_arrivals.specs.Kinds.{kind_of, IsFollowedKind};
 ghost use Rattle.point_arrivals.specs.Lists.{told_places_of};
 ghost use Rattle.point_arrivals.specs.Low.{AreLow};
+ghost use Rattle.point_arrivals.specs.Seen.{IsSeen};
 
-use crate::behind::end_of;
+use crate::course::{Course, InsnCourse};
 use crate::kind::Kind;
-use crate::lists::is_ud2;
 use crate::pairs::{branch_places, fix_places, original_places};
-use crate::straight::{is_plain_before, is_straight_insn};
-use object_points::{PlaceSet, PointPlaces};
-use operation_defs::Op;
+use crate::straight::is_plain_at;
+use alternatives::Point;
+use object_points::{Linked, PlaceSet, PointPlaces};
 use ot_base::{NoMemory, Place};
 use std::alloc::Global;
 
@@ -43,39 +45,73 @@ pub(crate) fn told_places(
     PlaceSet::build(alloc, &told)
 }
 
-/// A kind, unless an operation is a Ud2.
-#[inline(always)]
-fn unless_ud2(op: Op, kind: Kind) -> Option<Kind>
-    ensures { IfSome result (λ found. (found ≡ kind) × (is_an_ud2 op ≡ false)) }
-{
-    if is_ud2(op) {
-        return None;
-    }
-    Some(kind)
+/// A point, and whether a list may say something of its place.
+#[derive(Clone, Copy)]
+pub(crate) struct SeenPoint {
+    pub(crate) point: Point,
+    pub(crate) may_be_told: bool,
 }
 
-/// Of which kind a point is, where no list says anything of its place and of where it ends, and it is no Ud2. Of any other
-/// nothing is told.
+/// The point with a number.
 #[inline(always)]
-pub(crate) fn untold_kind(places: &PointPlaces<'_, '_, '_>, told: &PlaceSet, n: u32) -> Option<Kind>
-    requires low { AreLow places.now }
-    requires told { HaveSamePlaces (told_places_of places.now) told.now }
-    requires point { n < length (points_of_object places.now) }
-    ensures { IfSome result (λ kind. kind ≡ kind_of places.now n) }
+pub(crate) fn see_point(linked: &Linked<'_, '_>, told: &PlaceSet, n: u32) -> SeenPoint
+    requires told { HaveSamePlaces (told_places_of linked.now) told.now }
+    requires point { n < length (points_of_object linked.now) }
+    ensures { IsSeen linked.now n result }
 {
-    if told.may_contain(places.point(n).place) {
+    let point = linked.sites().point(n);
+    SeenPoint {
+        point,
+        may_be_told: told.may_contain(point.place),
+    }
+}
+
+/// Whether a point is plain, and another one is the plain one that stands so many bytes behind it.
+#[inline(always)]
+fn is_right_behind(point: Point, len: u8, next: Point) -> bool
+    requires low { point.place.off ≤ 16777216 }
+    ensures { result ≡ (is_plain point && same_point next (plain_point (behind point.place len))) }
+{
+    let off = point.place.off + u64::from(len);
+    let end = Place { off, ..point.place };
+    point.variant == 0 && is_plain_at(next, end)
+}
+
+/// The kind of a point with a course, where the one with the next number alone follows it and no list says anything of it. Of
+/// other courses nothing is told.
+#[inline(always)]
+fn followed_kind(course: Course) -> Option<Kind>
+    ensures { IfSome result (IsFollowedKind course) }
+{
+    match course {
+        Course::Straight => Some(Kind::Straight),
+        Course::Turn => Some(Kind::Followed),
+        Course::Room | Course::Offset | Course::Stop => None,
+    }
+}
+
+/// Of which kind a point with a course is, where no list says anything of its place and of that of the point with the next
+/// number, which stands where it ends. Of any other nothing is told.
+#[inline(always)]
+pub(crate) fn untold_kind(
+    linked: &Linked<'_, '_>,
+    n: u32,
+    course: InsnCourse,
+    point: SeenPoint,
+    next: SeenPoint,
+) -> Option<Kind>
+    requires low { AreLow linked.now }
+    requires inside { n + 1 < length (points_of_object linked.now) }
+    requires course { course ≡ course_of_insn (decoded_insn linked.now (point_at linked.now n)) }
+    requires point { IsSeen linked.now n point }
+    requires next { IsSeen linked.now (n + 1) next }
+    ensures { IfSome result (λ kind. kind ≡ kind_of linked.now n) }
+{
+    if point.may_be_told || next.may_be_told {
         return None;
     }
-    let op = places.decoded_insn(n).op;
-    let end = end_of(places, n);
-    if told.may_contain(end) {
+    if !is_right_behind(point.point, course.len, next.point) {
         return None;
     }
-    if !is_plain_before(places, n, end) {
-        return unless_ud2(op, Kind::Unlisted);
-    }
-    if is_straight_insn(places, n) {
-        return Some(Kind::Straight);
-    }
-    unless_ud2(op, Kind::Followed)
+    followed_kind(course.course)
 }

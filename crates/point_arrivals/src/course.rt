@@ -1,0 +1,86 @@
+//! The courses of instructions.
+
+ghost use Rattle.std.specs.Prelude.{◌≡◌, map, IfOk};
+ghost use Rattle.point_arrivals.specs.Courses.{course_of_insn, course_of_op, is_room_course};
+
+use operation_defs::{Insn, Op};
+use ot_base::NoMemory;
+use std::alloc::Global;
+
+/// What its decoded operation alone tells of where control goes on from an instruction, and whether room is made there.
+#[derive(Clone, Copy)]
+pub(crate) enum Course {
+    /// Control goes straight on. The operation is none by a number of the stack, and makes no room.
+    Straight,
+    /// The operation calls, jumps, returns or leaves the code.
+    Turn,
+    /// Control goes straight on, and room is made.
+    Room,
+    /// Control goes straight on. The operation is one by a number of the stack, which a relocation may change.
+    Offset,
+    /// The operation is a Ud2.
+    Stop,
+}
+
+impl Course {
+    /// That of an operation.
+    fn of(op: Op) -> Course
+        ensures { result ≡ course_of_op op }
+    {
+        match op {
+            Op::Call { .. }
+            | Op::CallInd
+            | Op::Hop
+            | Op::Jmp { .. }
+            | Op::Jcc { .. }
+            | Op::JmpInd { .. }
+            | Op::Ret
+            | Op::RetImm
+            | Op::Iret
+            | Op::Switch => Course::Turn,
+            Op::SubSp | Op::SpReg => Course::Room,
+            Op::AddSp { .. }
+            | Op::AndSp { .. }
+            | Op::LeaSpBp { .. }
+            | Op::LeaBpSp { .. }
+            | Op::LeaBpRoom { .. }
+            | Op::StoreBp { .. }
+            | Op::LoadBp { .. } => Course::Offset,
+            Op::Ud2 => Course::Stop,
+            _ => Course::Straight,
+        }
+    }
+
+    /// Whether room is made.
+    pub(crate) fn is_room(self) -> bool
+        ensures { result ≡ is_room_course self }
+    {
+        matches!(self, Course::Room)
+    }
+}
+
+/// The course of an instruction, with its length.
+#[derive(Clone, Copy)]
+pub(crate) struct InsnCourse {
+    /// How many bytes the instruction has.
+    pub(crate) len: u8,
+    pub(crate) course: Course,
+}
+
+/// The course of an instruction.
+fn course_of(insn: Insn) -> InsnCourse
+    ensures { result ≡ course_of_insn insn }
+{
+    InsnCourse {
+        len: insn.len,
+        course: Course::of(insn.op),
+    }
+}
+
+/// Those of instructions, in their order.
+pub(crate) fn list_courses(alloc: Global, insns: &[Insn]) -> Result<Vec<InsnCourse>, NoMemory>
+    ensures { IfOk result (λ courses. courses.items ≡ map course_of_insn insns.now) }
+{
+    let courses = insns.iter().map(|insn| course_of(*insn)).collect(alloc)?;
+    Ok(courses)
+}
