@@ -1,5 +1,5 @@
 -- The kinds that most points have.
-use Rattle.std.specs.Prelude.{◌≡◌, ℕ, List, Option, None, Some, false, slice_get, slice_index_or, true}
+use Rattle.std.specs.Prelude.{◌≡◌, ℕ, Bool, List, Some, false, length, slice_get, slice_index_or, true}
 use Rattle.operation_defs.specs.declared.insn.Insn.{Insn}
 use Rattle.alternatives.specs.declared.point.Point.{Point}
 use Rattle.flow_defs.specs.Coded.{Coded}
@@ -19,6 +19,7 @@ pub record IsUsual (kinds : List PointKind) (insn : Insn) (k : ℕ) : Type 0 whe
   pub here : slice_get kinds k ≡ Some (usual_kind insn)
   pub stays : StaysDecoded insn
 
--- the usual kinds of these instructions stand there, as far as that is told
-abbrev pub AreUsual : List Insn → List PointKind → List (Option ℕ) → Type 0
-AreUsual insns kinds usual = (i k : ℕ) → slice_index_or usual i None ≡ Some k → (insn : Insn) → slice_get insns i ≡ Some insn → IsUsual kinds insn k
+-- the usual kinds of the first n of these instructions stand at their numbers, where it is told that they stay
+pub record AreUsual (insns : List Insn) (kinds : List PointKind) (stay : List Bool) (n : ℕ) : Type 0 where
+  pub long : length stay ≡ n
+  pub each : (i : ℕ) (insn : Insn) → slice_get insns i ≡ Some insn → slice_index_or stay i false ≡ true → IsUsual kinds insn i

@@ -1,5 +1,5 @@
 -- The points of a graph, made from an object.
-use Rattle.std.specs.Prelude.{◌≡◌, ◌<◌, ℕ, Bool, List, Some, false, length, slice_get, slice_index, slice_index_or}
+use Rattle.std.specs.Prelude.{◌≡◌, ◌+◌, ◌<◌, ◌++◌, ◌∷◌, [], ℕ, Bool, List, Some, false, length, slice_get, slice_index, slice_index_or}
 use Rattle.ot_base.specs.NameLists.{NameLists}
 use Rattle.flow_defs.specs.Coded.{Coded}
 use Rattle.machine_defs.specs.Kept.{is_at_entry}
@@ -13,6 +13,9 @@ use Rattle.program_graph.specs.declared.parts.GraphPoint.{GraphPoint}
 use Rattle.program_graph.specs.declared.parts.PointKind.{PointKind}
 use Rattle.return_search.specs.declared.found_returns.Returns.{Returns}
 use Rattle.control_flow.specs.Numbers.{IsNumbered}
+use Rattle.control_flow.specs.Rares.{AreRares}
+use Rattle.control_flow.specs.declared.points.Shared.{Shared}
+use Rattle.control_flow.specs.declared.rares.RareTable.{RareTable}
 
 -- it is the kind of point q, where it is told whether a return may come from it on, and where what few points have and its
 -- transfer stand for it
@@ -24,11 +27,14 @@ pub record IsKind (o : Coded) (q : ℕ) (may_return : Bool) (rare transfer : ℕ
   pub returns : may_return ≡ k.may_return
   pub entered : (lists : NameLists) → is_at_entry (program_of o lists) q ≡ k.is_entered
 
--- the kind of point q has a number among those after, where others keep the numbers that they had before
-pub record HasKind (o : Coded) (q : ℕ) (may_return : Bool) (rare transfer : ℕ) (before after : List PointKind) (number : ℕ) : Type 0 where
+-- the kind of point q has a number among those after, and what few points have has one among theirs, where others keep the
+-- numbers that they had before
+pub record HasKind (o : Coded) (restores : List ℕ) (q : ℕ) (may_return : Bool) (transfer : ℕ) (before after : Shared) (number : ℕ) : Type 0 where
+  pub rare : ℕ
   pub kind : PointKind
   pub is_kind : IsKind o q may_return rare transfer kind
-  pub numbered : IsNumbered before after kind number
+  pub numbered : IsNumbered before.kinds.kinds.items after.kinds.kinds.items kind number
+  pub rares : (numbers : List ℕ) → AreRares o restores before.rares.rares.items before.rares.hinted.items numbers q → AreRares o restores after.rares.rares.items after.rares.hinted.items (numbers ++ rare ∷ []) (q + 1)
 
 -- it is point q, where it is told where its kind stands
 pub record IsPlaced (o : Coded) (owners : List Owner) (q kind : ℕ) (x : GraphPoint) : Type 0 where
@@ -48,3 +54,9 @@ pub record IsMade (o : Coded) (owners : List Owner) (kinds : List PointKind) (q 
 pub record AreMade (o : Coded) (owners : List Owner) (returns : Returns) (rares transfers : List ℕ) (kinds : List PointKind) (made : List GraphPoint) (n : ℕ) : Type 0 where
   pub long : length made ≡ n
   pub each : (q : ℕ) (x : GraphPoint) → slice_get made q ≡ Some x → IsMade o owners kinds q (slice_index_or returns.may_return.items q false) (slice_index rares q) (slice_index transfers q) x
+
+-- and what few of them have
+pub record AreMadeAll (o : Coded) (owners : List Owner) (restores : List ℕ) (returns : Returns) (transfers : List ℕ) (kinds : List PointKind) (table : RareTable) (made : List GraphPoint) (n : ℕ) : Type 0 where
+  pub numbers : List ℕ
+  pub points : AreMade o owners returns numbers transfers kinds made n
+  pub rares : AreRares o restores table.rares.items table.hinted.items numbers n

@@ -1,13 +1,13 @@
 //! The kinds of points.
 
-ghost use Rattle.std.specs.Prelude.{◌≡◌, ◌<◌, ◌^◌, [], List, IfOk, IfSome, IsTrue, None, Some, length, replicate, slice_get};
-ghost use Rattle.program_graph.specs.Tells.{insn_of};
+ghost use Rattle.std.specs.Prelude.{◌≡◌, ◌<◌, List, IfOk, IfSome, IsTrue, Some, length, slice_get};
 ghost use Rattle.operation_defs.specs.declared.insn.Insn.{Insn as InsnValue};
-ghost use Rattle.control_flow.specs.Kinds.{AreUsual, IsUsual, usual_kind};
+ghost use Rattle.control_flow.specs.Kinds.{AreUsual, IsUsual, usual_kind as usual_kind_of};
 ghost use Rattle.control_flow.specs.Numbers.{IsNumbered};
 
 use operation_defs::Insn;
 use ot_base::NoMemory;
+use point_edges::stays_decoded;
 use program_graph::PointKind;
 use std::alloc::Global;
 use x86_text::hash_of;
@@ -18,27 +18,34 @@ const MARKS: usize = 1024;
 /// How many marks there are of kinds with another transfer. Few points have it, and these mostly stand in a row.
 const TRANSFER_MARKS: usize = 64;
 
-/// The kinds that points have so far. Few stand more than once.
+/// The kinds that points have so far, behind those that most points have. Few stand more than once.
 #[derive(Drop)]
 pub(crate) struct KindTable {
+    /// Of each of the decoded instructions that differ the kind that most points with it have, and behind these the others.
     pub(crate) kinds: Vec<PointKind>,
     /// For each mark where the last kind of this mark stands. It is a guess: no contract says so.
     recent: Vec<u32>,
-    /// For each of the decoded instructions that differ, where the kind stands that most points with it have, once it does. The
-    /// program makes no other instruction of these.
-    usual: Vec<Option<u32>>,
+    /// For each of the decoded instructions that differ whether the program makes no other instruction of it.
+    stay: Vec<bool>,
 }
 
 impl KindTable {
-    /// No kinds yet, of points with so many decoded instructions that differ.
-    pub(crate) fn new(alloc: Global, insns: usize) -> Result<KindTable, NoMemory>
-        ensures kinds { IfOk result (λ table. table.kinds.items ≡ []) }
-        ensures usual { IfOk result (λ table. (different : List InsnValue) → AreUsual different table.kinds.items table.usual.items) }
+    /// Those that most points have with these decoded instructions, each of which differs from the others.
+    pub(crate) fn new(alloc: Global, insns: &[Insn]) -> Result<KindTable, NoMemory>
+        ensures { IfOk result (λ table. AreUsual insns.now table.kinds.items table.stay.items (length insns.now)) }
     {
+        let count = insns.len();
+        let mut kinds = Vec::with_capacity(alloc, count.saturating_add(count))?;
+        let mut stay = Vec::with_capacity(alloc, count)?;
+        for k in 0..count {
+            let insn = insns[k];
+            kinds.push(usual_kind(insn))?;
+            stay.push(stays_decoded(insn.op))?;
+        }
         Ok(KindTable {
-            kinds: Vec::with_capacity(alloc, insns)?,
+            kinds,
             recent: vec![in alloc; 0; MARKS + TRANSFER_MARKS]?,
-            usual: no_numbers(alloc, insns)?,
+            stay,
         })
     }
 
@@ -58,15 +65,18 @@ impl KindTable {
         }
     }
 
-    /// The number of a kind, which goes behind the others unless the last one of its mark is the same.
+    /// The number of a kind, which goes behind the others unless the last one of its mark is the same. 2^32 of them, which would
+    /// take 128 GiB, are too many.
     pub(crate) fn number_of(&mut self, kind: &PointKind) -> Result<u32, NoMemory>
-        requires few { length self.old.kinds.items < 2 ^ 32 }
         ensures numbered { IfOk result (IsNumbered self.old.kinds.items self.new.kinds.items kind.now) }
-        ensures usual { self.new.usual.items ≡ self.old.usual.items }
+        ensures stay { self.new.stay.items ≡ self.old.stay.items }
     {
         let mark = mark_of(kind);
         if let Some(number) = self.find(kind, mark) {
             return Ok(number);
+        }
+        if self.kinds.len() > u32::MAX as usize {
+            return Err(NoMemory);
         }
         let number = self.kinds.len() as u32;
         self.kinds.push(*kind)?;
@@ -76,40 +86,29 @@ impl KindTable {
         Ok(number)
     }
 
-    /// Where the kind stands that most points have whose decoded instruction has this number among those that differ, if that
-    /// is known.
+    /// Whether the kind that most points have whose decoded instruction has this number among those that differ stands there.
     #[inline(always)]
-    pub(crate) fn find_usual(&self, insn: u32) -> Option<u32>
-        ensures { (different : List InsnValue) (decoded : InsnValue) → AreUsual different self.now.kinds.items self.now.usual.items → slice_get different insn ≡ Some decoded → IfSome result (IsUsual self.now.kinds.items decoded) }
+    pub(crate) fn has_usual(&self, insn: u32) -> bool
+        requires { insn < length self.now.stay.items }
+        ensures { IsTrue result → (different : List InsnValue) (decoded : InsnValue) → AreUsual different self.now.kinds.items self.now.stay.items (length different) → slice_get different insn ≡ Some decoded → IsUsual self.now.kinds.items decoded insn }
     {
-        *self.usual.get(insn as usize)?
-    }
-
-    /// Notes where the kind stands that most points have whose decoded instruction has this number among those that differ.
-    pub(crate) fn note_usual(&mut self, insn: u32, number: u32)
-        ensures kinds { self.new.kinds.items ≡ self.old.kinds.items }
-        ensures usual { (different : List InsnValue) (decoded : InsnValue) → AreUsual different self.old.kinds.items self.old.usual.items → slice_get different insn ≡ Some decoded → IsUsual self.old.kinds.items decoded number → AreUsual different self.new.kinds.items self.new.usual.items }
-    {
-        let place = insn as usize;
-        if place < self.usual.len() {
-            self.usual[place] = Some(number);
-        }
+        self.stay[insn as usize]
     }
 }
 
-/// So many times no number.
-fn no_numbers(alloc: Global, count: usize) -> Result<Vec<Option<u32>>, NoMemory>
-    ensures { IfOk result (λ numbers. numbers.items ≡ replicate count None) }
+/// The kind that most points with an instruction have.
+fn usual_kind(insn: Insn) -> PointKind
+    ensures { result ≡ usual_kind_of insn }
 {
-    Ok(vec![in alloc; None; count]?)
-}
-
-/// Whether a kind is the one that most points with its instruction have.
-#[tactic(auto, using(crate::proofs::UsualKinds::is_usual_kind))]
-pub(crate) fn is_usual(kind: PointKind) -> bool
-    ensures { IsTrue result → kind ≡ usual_kind (insn_of kind) }
-{
-    kind.rare == 0 && kind.transfer == 0 && kind.may_return && !kind.is_entered && !kind.is_dead_end
+    PointKind {
+        op: insn.op,
+        rare: 0,
+        transfer: 0,
+        len: insn.len,
+        is_dead_end: false,
+        may_return: true,
+        is_entered: false,
+    }
 }
 
 /// The mark of a kind whose transfer is that of most points. Usual kinds with different instructions mostly have different

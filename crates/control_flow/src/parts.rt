@@ -7,8 +7,7 @@ ghost use Rattle.program_graph.specs.Shape.{HaveShape};
 ghost use Rattle.program_graph.specs.Tells.{Tells, site_of, text_of};
 ghost use Rattle.control_flow.specs.Listed.{AreEntered, count_of};
 ghost use Rattle.control_flow.specs.Numbers.{HaveNumbers};
-ghost use Rattle.control_flow.specs.Points.{AreMade};
-ghost use Rattle.control_flow.specs.Rares.{AreRares};
+ghost use Rattle.control_flow.specs.Points.{AreMadeAll};
 ghost use Rattle.return_search.specs.Shape.{HaveShape as HaveReturnShape};
 ghost use Rattle.control_flow.specs.Transfers.{IsTransferOf};
 ghost use Rattle.control_flow.specs.ReturnsOfEdges.{AreReturnsOfEdges};
@@ -16,7 +15,6 @@ ghost use Rattle.control_flow.specs.ReturnsOfEdges.{AreReturnsOfEdges};
 use crate::hinted::restores_are_points;
 use crate::outgoing::{Outgoing, list_outgoing};
 use crate::points::{PointList, list_points};
-use crate::rares::{RareList, list_rares};
 use crate::returning::returns_of;
 use crate::transfers::{TransferList, settle_transfers};
 use object_points::{
@@ -70,8 +68,6 @@ struct PointParts {
     list: PointList,
     /// Whose code they are.
     owners: Vec<Owner>,
-    /// What few of them have.
-    rares: RareList,
     /// The RESTOREs.
     restores: Vec<u32>,
 }
@@ -86,21 +82,18 @@ fn point_parts(
     requires shape { HaveReturnShape (count_of points.now) returns.now }
     requires entered { AreEntered points.now returns.now.entered.items (count_of points.now) }
     requires transfers { length transfers.now ≡ count_of points.now }
-    ensures made { IfOk result (λ own. AreMade points.now own.owners.items returns.now own.rares.numbers.items transfers.now own.list.kinds.items own.list.points.items (count_of points.now)) }
+    ensures made { IfOk result (λ own. AreMadeAll points.now own.owners.items own.restores.items returns.now transfers.now own.list.kinds.items own.list.rares own.list.points.items (count_of points.now)) }
     ensures few { IfOk result (λ own. length own.list.points.items < 2 ^ 32) }
-    ensures rares { IfOk result (λ own. AreRares points.now own.restores.items own.rares.rares.items own.rares.hinted.items own.rares.numbers.items (count_of points.now)) }
     ensures restores { IfOk result (λ own. All (λ r. r < count_of points.now) own.restores.items) }
 {
     let places = points.places();
     let hints = HintPoints::build(alloc, places)?;
-    let rares = list_rares(alloc, points, &hints)?;
     let owners = OwnerTable::build(alloc, places)?;
-    let list = list_points(alloc, points, &owners, returns, &rares.numbers, transfers)?;
+    let list = list_points(alloc, points, &hints, &owners, returns, transfers)?;
     restores_are_points(&hints);
     Ok(PointParts {
         list,
         owners: owners.into_owners(),
-        rares,
         restores: hints.into_restores(),
     })
 }
@@ -147,7 +140,6 @@ pub(crate) fn parts_of(
     let PointParts {
         list,
         owners,
-        rares,
         restores,
     } = own;
     Ok(GraphParts {
@@ -158,8 +150,8 @@ pub(crate) fn parts_of(
         owners,
         kinds: list.kinds,
         transfers: transfers.transfers,
-        rares: rares.rares,
-        hinted: rares.hinted,
+        rares: list.rares.rares,
+        hinted: list.rares.hinted,
         restores,
         sites: beside.sites,
         texts: beside.texts,

@@ -1,21 +1,23 @@
 //! The points of a graph.
 
-ghost use Rattle.std.specs.Prelude.{◌≡◌, ◌<◌, ◌^◌, true, false, IfOk, IsTrue, OnOk, length};
+ghost use Rattle.std.specs.Prelude.{◌≡◌, ◌<◌, ◌^◌, true, false, IfOk, IsTrue, length};
 ghost use Rattle.ot_base.specs.NameLists.{NameLists};
 ghost use Rattle.machine_defs.specs.Kept.{is_at_entry};
 ghost use Rattle.flow_defs.specs.Program.{program_of};
+ghost use Rattle.object_law.specs.Flows.{ObjectIsInOrder};
 ghost use Rattle.return_search.specs.Shape.{HaveShape};
 ghost use Rattle.control_flow.specs.Listed.{AreEntered, count_of};
 ghost use Rattle.object_points.specs.Decoded.{AreDecoded};
 ghost use Rattle.control_flow.specs.Kinds.{AreUsual};
-ghost use Rattle.control_flow.specs.Points.{AreMade, HasKind, IsKind, IsPlaced};
+ghost use Rattle.control_flow.specs.Points.{AreMadeAll, HasKind, IsKind, IsPlaced};
 
-use crate::kinds::{KindTable, is_usual};
+use crate::kinds::KindTable;
 use crate::listed::count_points;
 use crate::low::point_is_low;
-use object_points::OwnerTable;
+use crate::rares::{RareTable, is_usual};
+use object_points::{HintPoints, OwnerTable};
 use ot_base::NoMemory;
-use point_edges::{FlowPoints, stays_decoded};
+use point_edges::{FlowPoints, object_is_in_order};
 use program_graph::{GraphPoint, PointKind};
 use return_search::Returns;
 use std::alloc::Global;
@@ -28,27 +30,26 @@ struct Told {
     may_return: bool,
     /// Whether control that comes to some entry may stand at it.
     is_entered: bool,
-    /// Where what few points have stands for it.
-    rare: u32,
     /// Where its transfer stands.
     transfer: u32,
 }
 
-/// The kind of the point with a number.
+/// The kind of the point with a number, where it is told where what few points have stands for it.
 fn kind_of(
     alloc: Global,
     points: &FlowPoints<'_, '_, '_>,
     n: u32,
     told: Told,
+    rare: u32,
 ) -> Result<PointKind, NoMemory>
     requires point { n < count_of points.now }
     requires entered { (lists : NameLists) → is_at_entry (program_of points.now lists) n ≡ told.is_entered }
-    ensures { IfOk result (IsKind points.now n told.may_return told.rare told.transfer) }
+    ensures { IfOk result (IsKind points.now n told.may_return rare told.transfer) }
 {
     let insn = points.arrivals().insn(alloc, n)?;
     Ok(PointKind {
         op: insn.op,
-        rare: told.rare,
+        rare,
         transfer: told.transfer,
         len: insn.len,
         is_dead_end: points.arrivals().is_dead_end(n),
@@ -60,64 +61,75 @@ fn kind_of(
 /// Whether what is told of a point is what is told of most.
 #[inline(always)]
 fn is_told_usual(told: Told) -> bool
-    ensures { IsTrue result → (told.may_return ≡ true) × (told.is_entered ≡ false) × (told.rare ≡ 0) × (told.transfer ≡ 0) }
+    ensures { IsTrue result → (told.may_return ≡ true) × (told.is_entered ≡ false) × (told.transfer ≡ 0) }
 {
-    told.rare == 0 && told.transfer == 0 && told.may_return && !told.is_entered
+    told.transfer == 0 && told.may_return && !told.is_entered
 }
 
-/// The number of the kind of a point, which is noted where most points with its decoded instruction have it.
+/// What the points so far have in common.
+#[derive(Drop)]
+struct Shared {
+    kinds: KindTable,
+    rares: RareTable,
+}
+
+/// The number of the kind of a point, which is looked up.
 #[inline(never)]
 fn look_up_kind(
     alloc: Global,
     points: &FlowPoints<'_, '_, '_>,
-    insns: NumberedInsns<'_>,
-    table: &mut KindTable,
+    hints: &HintPoints<'_, '_, '_, '_>,
+    shared: &mut Shared,
     n: u32,
     told: Told,
 ) -> Result<u32, NoMemory>
+    requires hints { hints.now.object ≡ points.now }
+    requires order { ObjectIsInOrder points.now }
     requires point { n < count_of points.now }
-    requires insns { AreDecoded points.now insns.kinds.now insns.numbers.now }
     requires entered { (lists : NameLists) → is_at_entry (program_of points.now lists) n ≡ told.is_entered }
-    requires few { length table.old.kinds.items < 2 ^ 32 }
-    requires usual { AreUsual insns.kinds.now table.old.kinds.items table.old.usual.items }
-    ensures numbered { IfOk result (HasKind points.now n told.may_return told.rare told.transfer table.old.kinds.items table.new.kinds.items) }
-    ensures usual { OnOk result (AreUsual insns.entry.kinds.now table.new.kinds.items table.new.usual.items) }
+    requires some { 0 < length shared.old.rares.rares.items }
+    requires few { length shared.old.rares.rares.items < 2 ^ 32 }
+    requires few_hinted { length shared.old.rares.hinted.items < 2 ^ 32 }
+    ensures kind { IfOk result (HasKind points.now hints.now.restores n told.may_return told.transfer shared.old shared.new) }
+    ensures stay { shared.new.kinds.stay.items ≡ shared.old.kinds.stay.items }
 {
-    let kind = kind_of(alloc, points, n, told)?;
-    let number = table.number_of(&kind)?;
-    let decoded = points.places().decoded_insn(n);
-    if is_usual(kind) && stays_decoded(decoded.op) {
-        table.note_usual(insns.numbers[n as usize], number);
-    }
-    Ok(number)
+    let rare = shared.rares.add(points, hints, n)?;
+    let kind = kind_of(alloc, points, n, told, rare)?;
+    shared.kinds.number_of(&kind)
 }
 
-/// The number of the kind of a point. For most points the number of its decoded instruction tells it.
+/// The number of the kind of a point. For most points it is the number of its decoded instruction.
 #[inline(always)]
 fn number_kind(
     alloc: Global,
     points: &FlowPoints<'_, '_, '_>,
+    hints: &HintPoints<'_, '_, '_, '_>,
     insns: NumberedInsns<'_>,
-    table: &mut KindTable,
+    shared: &mut Shared,
     n: u32,
     told: Told,
 ) -> Result<u32, NoMemory>
+    requires hints { hints.now.object ≡ points.now }
+    requires order { ObjectIsInOrder points.now }
     requires point { n < count_of points.now }
     requires insns { AreDecoded points.now insns.kinds.now insns.numbers.now }
     requires entered { (lists : NameLists) → is_at_entry (program_of points.now lists) n ≡ told.is_entered }
-    requires few { length table.old.kinds.items < 2 ^ 32 }
-    requires usual { AreUsual insns.kinds.now table.old.kinds.items table.old.usual.items }
-    ensures numbered { IfOk result (HasKind points.now n told.may_return told.rare told.transfer table.old.kinds.items table.new.kinds.items) }
-    ensures usual { OnOk result (AreUsual insns.entry.kinds.now table.new.kinds.items table.new.usual.items) }
+    requires usual { AreUsual insns.kinds.now shared.old.kinds.kinds.items shared.old.kinds.stay.items (length insns.kinds.now) }
+    requires some { 0 < length shared.old.rares.rares.items }
+    requires few { length shared.old.rares.rares.items < 2 ^ 32 }
+    requires few_hinted { length shared.old.rares.hinted.items < 2 ^ 32 }
+    ensures kind { IfOk result (HasKind points.now hints.now.restores n told.may_return told.transfer shared.old shared.new) }
+    ensures stay { shared.new.kinds.stay.items ≡ shared.old.kinds.stay.items }
 {
-    if is_told_usual(told) && !points.arrivals().is_dead_end(n) {
-        if let Some(number) = table.find_usual(insns.numbers[n as usize]) {
+    if is_told_usual(told) && !points.arrivals().is_dead_end(n) && is_usual(points, n) {
+        let number = insns.numbers[n as usize];
+        if shared.kinds.has_usual(number) {
             return Ok(number);
         }
     }
     // What is handed on is a copy, so that what is told of most points needn't stand in memory.
     let other = told;
-    look_up_kind(alloc, points, insns, table, n, other)
+    look_up_kind(alloc, points, hints, shared, n, other)
 }
 
 /// The point with a number, whose kind has a number.
@@ -148,6 +160,7 @@ fn point_of(
 pub(crate) struct PointList {
     pub(crate) points: Vec<GraphPoint>,
     pub(crate) kinds: Vec<PointKind>,
+    pub(crate) rares: RareTable,
 }
 
 /// All points.
@@ -155,36 +168,42 @@ pub(crate) struct PointList {
 pub(crate) fn list_points(
     alloc: Global,
     points: &FlowPoints<'_, '_, '_>,
+    hints: &HintPoints<'_, '_, '_, '_>,
     owners: &OwnerTable<'_, '_, '_, '_>,
     returns: &Returns,
-    rares: &[u32],
     transfers: &[u32],
 ) -> Result<PointList, NoMemory>
+    requires hints { hints.now.object ≡ points.now }
     requires owners { owners.now.object ≡ points.now }
     requires returns { HaveShape (count_of points.now) returns.now }
     requires entered { AreEntered points.now returns.now.entered.items (count_of points.now) }
-    requires rares { length rares.now ≡ count_of points.now }
     requires transfers { length transfers.now ≡ count_of points.now }
-    ensures made { IfOk result (λ list. AreMade points.now owners.now.owners returns.now rares.now transfers.now list.kinds.items list.points.items (count_of points.now)) }
+    ensures made { IfOk result (λ list. AreMadeAll points.now owners.now.owners hints.now.restores returns.now transfers.now list.kinds.items list.rares list.points.items (count_of points.now)) }
     ensures few { IfOk result (λ list. length list.points.items < 2 ^ 32) }
 {
-    let count = count_points(points.places());
-    let insns = points.places().numbered_insns();
-    let mut table = KindTable::new(alloc, insns.kinds.len())?;
+    let places = points.places();
+    object_is_in_order(places.linked());
+    let count = count_points(places);
+    let insns = places.numbered_insns();
+    let mut shared = Shared {
+        kinds: KindTable::new(alloc, insns.kinds)?,
+        rares: RareTable::new(alloc)?,
+    };
     let mut made = Vec::with_capacity(alloc, count as usize)?;
     for n in 0..count {
         let k = n as usize;
         let told = Told {
             may_return: returns.may_return[k],
             is_entered: returns.entered[k].is_some(),
-            rare: rares[k],
             transfer: transfers[k],
         };
-        let kind = number_kind(alloc, points, insns, &mut table, n, told)?;
+        let kind = number_kind(alloc, points, hints, insns, &mut shared, n, told)?;
         made.push_reserved(point_of(points, owners, n, kind));
     }
+    let Shared { kinds, rares } = shared;
     Ok(PointList {
         points: made,
-        kinds: table.kinds,
+        kinds: kinds.kinds,
+        rares,
     })
 }

@@ -12,7 +12,6 @@ ghost use Rattle.control_flow.specs.Numbers.{IsNumbered};
 ghost use Rattle.control_flow.specs.Rares.{AreRares, IsRare};
 
 use crate::hinted::{hinted_of, push_hinted};
-use crate::listed::count_points;
 use crate::low::point_is_low;
 use crate::numbers::number_of;
 use crate::preceding::{ends_at, previous};
@@ -108,16 +107,6 @@ fn is_behind_plain(places: &PointPlaces<'_, '_, '_>, n: u32) -> bool
     point.variant == 0 && ends_at(places.point(n - 1), len, point.place)
 }
 
-/// Whether it is seen at once that a point has what most have, but for a hint.
-#[inline(always)]
-fn is_usual(points: &FlowPoints<'_, '_, '_>, n: u32) -> bool
-    requires order { ObjectIsInOrder points.now }
-    requires point { n < count_of points.now }
-    ensures { IsTrue result → IsRare points.now n None USUAL }
-{
-    is_behind_straight(points, n) || is_behind_plain(points.places(), n)
-}
-
 /// Whether a point has no hint. Of most points that is told without a search.
 #[inline(always)]
 fn is_unhinted(places: &PointPlaces<'_, '_, '_>, n: u32) -> bool
@@ -127,83 +116,78 @@ fn is_unhinted(places: &PointPlaces<'_, '_, '_>, n: u32) -> bool
     !places.may_have_hint(n) || places.hint(n).is_none()
 }
 
-/// Lists what a point has, unless most have it or the one before, and tells where it stands.
-#[inline(never)]
-fn add_any(
-    points: &FlowPoints<'_, '_, '_>,
-    hints: &HintPoints<'_, '_, '_, '_>,
-    n: u32,
-    rares: &mut Vec<Rare>,
-    hinted: &mut Vec<Hinted>,
-) -> Result<u32, NoMemory>
-    requires hints { hints.now.object ≡ points.now }
-    requires point { n < count_of points.now }
-    requires some { 0 < length rares.old.items }
-    requires few { length rares.old.items < 2 ^ 32 }
-    requires few_hinted { length hinted.old.items < 2 ^ 32 }
-    ensures { IfOk result (λ number. (numbers : List ℕ) → AreRares points.now hints.now.restores rares.old.items hinted.old.items numbers n → AreRares points.now hints.now.restores rares.new.items hinted.new.items (numbers ++ number ∷ []) (n + 1)) }
-{
-    let known = push_hinted(hinted, hinted_of(hints, n))?;
-    number_rare(rares, rare_of(points.places(), n, known))
-}
-
-/// Lists what a point has where few have it, and tells where it stands. That of most points is the first.
+/// Whether it is seen at once that a point has what most have.
 #[inline(always)]
-fn add_rare(
-    points: &FlowPoints<'_, '_, '_>,
-    hints: &HintPoints<'_, '_, '_, '_>,
-    n: u32,
-    rares: &mut Vec<Rare>,
-    hinted: &mut Vec<Hinted>,
-) -> Result<u32, NoMemory>
-    requires hints { hints.now.object ≡ points.now }
+pub(crate) fn is_usual(points: &FlowPoints<'_, '_, '_>, n: u32) -> bool
     requires order { ObjectIsInOrder points.now }
     requires point { n < count_of points.now }
-    requires some { 0 < length rares.old.items }
-    requires few { length rares.old.items < 2 ^ 32 }
-    requires few_hinted { length hinted.old.items < 2 ^ 32 }
-    ensures { IfOk result (λ number. (numbers : List ℕ) → AreRares points.now hints.now.restores rares.old.items hinted.old.items numbers n → AreRares points.now hints.now.restores rares.new.items hinted.new.items (numbers ++ number ∷ []) (n + 1)) }
+    ensures rare { IsTrue result → IsRare points.now n None USUAL }
+    ensures hint { IsTrue result → IsUnhinted points.now n }
 {
-    if is_usual(points, n) && is_unhinted(points.places(), n) {
-        return Ok(0);
-    }
-    add_any(points, hints, n, rares, hinted)
+    (is_behind_straight(points, n) || is_behind_plain(points.places(), n))
+        && is_unhinted(points.places(), n)
 }
 
-/// What few points have, and for each point where it stands.
+/// What few points have, of the points so far.
 #[derive(Drop)]
-pub(crate) struct RareList {
+pub(crate) struct RareTable {
     /// What few points have, behind what most have.
     pub(crate) rares: Vec<Rare>,
     /// What points have that have a hint.
     pub(crate) hinted: Vec<Hinted>,
-    /// For each point where what it has stands among the first.
-    pub(crate) numbers: Vec<u32>,
 }
 
-/// What all points have.
-#[inline(never)]
-pub(crate) fn list_rares(
-    alloc: Global,
-    points: &FlowPoints<'_, '_, '_>,
-    hints: &HintPoints<'_, '_, '_, '_>,
-) -> Result<RareList, NoMemory>
-    requires { hints.now.object ≡ points.now }
-    ensures { IfOk result (λ list. AreRares points.now hints.now.restores list.rares.items list.hinted.items list.numbers.items (count_of points.now)) }
-{
-    object_is_in_order(points.places().linked());
-    let count = count_points(points.places());
-    let mut rares = Vec::new(alloc);
-    rares.push(USUAL)?;
-    let mut hinted = Vec::new(alloc);
-    let mut numbers = Vec::with_capacity(alloc, count as usize)?;
-    for n in 0..count {
-        let number = add_rare(points, hints, n, &mut rares, &mut hinted)?;
-        numbers.push_reserved(number);
+impl RareTable {
+    /// No points yet.
+    pub(crate) fn new(alloc: Global) -> Result<RareTable, NoMemory>
+        ensures rares { IfOk result (λ table. table.rares.items ≡ USUAL ∷ []) }
+        ensures hinted { IfOk result (λ table. table.hinted.items ≡ []) }
+    {
+        let mut rares = Vec::new(alloc);
+        rares.push(USUAL)?;
+        Ok(RareTable {
+            rares,
+            hinted: Vec::new(alloc),
+        })
     }
-    Ok(RareList {
-        rares,
-        hinted,
-        numbers,
-    })
+
+    /// Lists what a point has, unless most have it or the one before, and tells where it stands.
+    #[inline(never)]
+    fn add_any(
+        &mut self,
+        points: &FlowPoints<'_, '_, '_>,
+        hints: &HintPoints<'_, '_, '_, '_>,
+        n: u32,
+    ) -> Result<u32, NoMemory>
+        requires hints { hints.now.object ≡ points.now }
+        requires point { n < count_of points.now }
+        requires some { 0 < length self.old.rares.items }
+        requires few { length self.old.rares.items < 2 ^ 32 }
+        requires few_hinted { length self.old.hinted.items < 2 ^ 32 }
+        ensures { IfOk result (λ number. (numbers : List ℕ) → AreRares points.now hints.now.restores self.old.rares.items self.old.hinted.items numbers n → AreRares points.now hints.now.restores self.new.rares.items self.new.hinted.items (numbers ++ number ∷ []) (n + 1)) }
+    {
+        let known = push_hinted(&mut self.hinted, hinted_of(hints, n))?;
+        number_rare(&mut self.rares, rare_of(points.places(), n, known))
+    }
+
+    /// Lists what a point has where few have it, and tells where it stands. That of most points is the first.
+    pub(crate) fn add(
+        &mut self,
+        points: &FlowPoints<'_, '_, '_>,
+        hints: &HintPoints<'_, '_, '_, '_>,
+        n: u32,
+    ) -> Result<u32, NoMemory>
+        requires hints { hints.now.object ≡ points.now }
+        requires order { ObjectIsInOrder points.now }
+        requires point { n < count_of points.now }
+        requires some { 0 < length self.old.rares.items }
+        requires few { length self.old.rares.items < 2 ^ 32 }
+        requires few_hinted { length self.old.hinted.items < 2 ^ 32 }
+        ensures { IfOk result (λ number. (numbers : List ℕ) → AreRares points.now hints.now.restores self.old.rares.items self.old.hinted.items numbers n → AreRares points.now hints.now.restores self.new.rares.items self.new.hinted.items (numbers ++ number ∷ []) (n + 1)) }
+    {
+        if is_usual(points, n) {
+            return Ok(0);
+        }
+        self.add_any(points, hints, n)
+    }
 }

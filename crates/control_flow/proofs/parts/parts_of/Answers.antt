@@ -4,7 +4,7 @@ use Rattle.flow_defs.specs.Program.{text_sections_of, unsized_of}
 use Rattle.flow_defs.specs.Sites.{sites_of}
 use Rattle.program_graph.specs.declared.parts.GraphParts.{GraphParts}
 use Rattle.control_flow.specs.Listed.{count_of}
-use Rattle.control_flow.specs.Points.{AreMade}
+use Rattle.control_flow.specs.Points.{AreMadeAll}
 use Rattle.control_flow.proofs.Whole.{AreParts, parts_have_shape, parts_tell}
 use Rattle.control_flow.proofs.parts.parts_of.Goals as goal
 
@@ -21,24 +21,25 @@ returns c =
       owners = c.in_ok-own.own.owners;
       kinds = c.in_ok-own.own.list.kinds;
       transfers = c.in_ok-edges.edges.transfers.transfers;
-      rares = c.in_ok-own.own.rares.rares;
-      hinted = c.in_ok-own.own.rares.hinted;
+      rares = c.in_ok-own.own.list.rares.rares;
+      hinted = c.in_ok-own.own.list.rares.hinted;
       restores = c.in_ok-own.own.restores;
       sites = c.in_ok-beside.beside.sites;
       texts = c.in_ok-beside.beside.texts;
       without_size = c.in_ok-beside.beside.without_size;
     } in
     let returned = c.in_ok-edges.edges.returns in
-    let rares : List ℕ = own.rares.numbers.items in
     let transfers : List ℕ = c.in_ok-edges.edges.transfers.numbers.items in
     let told = c.in_ok-edges.ensures.told in
     let places : c.places.result.now ≡ o = c.places.ensures in
     let same_transfers : c.deref.result.now ≡ transfers = cc in
+    let made : AreMadeAll o own.owners.items own.restores.items returned transfers own.list.kinds.items own.list.rares own.list.points.items (count_of o) = subst (λ (ts : List ℕ). AreMadeAll o own.owners.items own.restores.items returned ts own.list.kinds.items own.list.rares own.list.points.items (count_of o)) same_transfers c.in_ok-own.ensures.made in
+    let rares : List ℕ = made.numbers in
     let are : AreParts o lists parts returned told.starts told.edges rares transfers = record {
       few = c.in_ok-own.ensures.few;
-      points = subst (λ (ts : List ℕ). AreMade o own.owners.items returned rares ts own.list.kinds.items own.list.points.items (count_of o)) same_transfers c.in_ok-own.ensures.made;
+      points = made.points;
       transfers = c.in_ok-edges.ensures.transfers;
-      rares = c.in_ok-own.ensures.rares;
+      rares = made.rares;
       returns_shape = c.in_ok-edges.ensures.shape;
       listed = told.listed;
       returns_told = told.told;

@@ -1,8 +1,8 @@
-use Rattle.std.proofs.Common.{◌≡◌, ◌≤◌, length}
+use Rattle.std.proofs.Common.{◌≡◌, length}
 use Rattle.std.specs.Prelude.{vec_capacity, vec_len}
 use Rattle.control_flow.specs.Kinds.{AreUsual}
-use Rattle.control_flow.specs.Points.{AreMade}
+use Rattle.control_flow.specs.Points.{AreMadeAll}
 use Rattle.control_flow.proofs.points.list_points.Given as goal
 
 abbrev pub invariant-loop-n : goal.invariant-loop-n
-invariant-loop-n l = AreMade l.points l.owners.owners l.returns l.rares l.transfers l.table.kinds.items l.made.items l.n × (length l.table.kinds.items ≤ l.n) × AreUsual l.insns.kinds.now l.table.kinds.items l.table.usual.items × (vec_len l.made ≡ l.n) × (vec_capacity l.made ≡ l.count)
+invariant-loop-n l = AreMadeAll l.points l.owners.owners l.hints.restores l.returns l.transfers l.shared.kinds.kinds.items l.shared.rares l.made.items l.n × AreUsual l.insns.kinds.now l.shared.kinds.kinds.items l.shared.kinds.stay.items (length l.insns.kinds.now) × (vec_len l.made ≡ l.n) × (vec_capacity l.made ≡ l.count)

@@ -7,7 +7,7 @@ use Rattle.control_flow.specs.Hinted.{IsHinted, IsUnhinted}
 use Rattle.control_flow.specs.Rares.{IsRare}
 use Rattle.control_flow.proofs.RareSteps.{more_rares}
 use Rattle.control_flow.proofs.Steps.{all_ok}
-use Rattle.control_flow.proofs.rares.add_any.Goals as goal
+use Rattle.control_flow.proofs.rares.RareTable.add_any.Goals as goal
 
 -- what was found is so in the object of the points
 found_is : (o own : Coded) (restores : List ℕ) (n : ℕ) (found : Option Hinted) → own ≡ o → MatchOption found (IsUnhinted own n) (IsHinted own restores n) → MatchOption found (IsUnhinted o n) (IsHinted o restores n)
@@ -23,5 +23,5 @@ returns c =
     let rare : IsRare o n known x = subst (λ (e : Coded). IsRare e n known x) c.places.ensures c.rare_of.ensures in
     let after = c.number_rare.new.rares.items in
     all_ok c.number_rare.result (λ number is numbers are.
-    more_rares o restores c.args.rares.now.items after c.args.hinted.now.items c.push_hinted.new.hinted.items numbers n c.hinted_of.result known number x are
+    more_rares o restores c.args.self.now.rares.items after c.args.self.now.hinted.items c.push_hinted.new.hinted.items numbers n c.hinted_of.result known number x are
     (found_is o c.args.hints.now.object restores n c.hinted_of.result c.requires.hints c.hinted_of.ensures) c.in_ok-known.ensures rare is) c.number_rare.ensures
