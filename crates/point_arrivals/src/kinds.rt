@@ -46,7 +46,7 @@ fn look_up_kind(lists: &PointLists<'_, '_, '_>, n: u32) -> Kind
     Kind::Followed
 }
 
-/// Of which kind a point is. For most points they and the ones behind them tell it.
+/// Of which kind a point is. For most points what is seen of them and of the next ones tells it.
 #[inline(always)]
 fn kind_of(
     lists: &PointLists<'_, '_, '_>,

@@ -53,7 +53,7 @@ impl<'l, 'o, 'a> Model for PointLists<'l, 'o, 'a> {
     ghost invariant = { λ a. AreLow a.places × AreListsOf a.places a.originals a.reachable a.unreachable a.intra_calls a.branches a.fixes a.rooms.items };
 }
 
-/// All lists of places of an object.
+/// All lists of places of an object, and the owners that make room.
 #[derive(Drop)]
 struct Listed {
     places: ListedPlaces,
@@ -62,7 +62,7 @@ struct Listed {
     rooms: Vec<u32>,
 }
 
-/// All lists of places of an object.
+/// All lists of places of an object, and the owners that make room.
 fn list_all(
     alloc: Global,
     places: &PointPlaces<'_, '_, '_>,
