@@ -53,6 +53,13 @@ const T_1: Tail = Tail { test: 1, ..RM };
 
 const T_4: Tail = Tail { test: 4, ..RM };
 
+/// C5, C4 and 62, with the one, two or three bytes more of VEX or EVEX, an opcode and ModRM. What follows is left out of account.
+const VEX_2: Tail = Tail { len: 4, ..OP };
+
+const VEX_3: Tail = Tail { len: 5, ..OP };
+
+const EVEX: Tail = Tail { len: 6, ..OP };
+
 /// Prefixes, and opcodes of one byte.
 static ONE_BYTE: [Tail; 256] = [
     RM, RM, RM, RM, OP_1, OP_4, OP, OP, // 00
@@ -67,7 +74,7 @@ static ONE_BYTE: [Tail; 256] = [
     PRE, PRE, PRE, PRE, PRE, PRE, PRE, PRE, // 48
     OP, OP, OP, OP, OP, OP, OP, OP, // 50
     OP, OP, OP, OP, OP, OP, OP, OP, // 58
-    OP, OP, OP, RM, PRE, PRE, PRE, PRE, // 60
+    OP, OP, EVEX, RM, PRE, PRE, PRE, PRE, // 60
     OP_4, RM_4, OP_1, RM_1, OP, OP, OP, OP, // 68
     OP_1, OP_1, OP_1, OP_1, OP_1, OP_1, OP_1, OP_1, // 70
     OP_1, OP_1, OP_1, OP_1, OP_1, OP_1, OP_1, OP_1, // 78
@@ -79,7 +86,7 @@ static ONE_BYTE: [Tail; 256] = [
     OP_1, OP_4, OP, OP, OP, OP, OP, OP, // A8
     OP_1, OP_1, OP_1, OP_1, OP_1, OP_1, OP_1, OP_1, // B0
     OP_4, OP_4, OP_4, OP_4, OP_4, OP_4, OP_4, OP_4, // B8
-    RM_1, RM_1, OP_2, OP, RM, RM, RM_1, RM_4, // C0
+    RM_1, RM_1, OP_2, OP, VEX_3, VEX_2, RM_1, RM_4, // C0
     OP_3, OP, OP_2, OP, OP, OP_1, OP, OP, // C8
     RM, RM, RM, RM, OP, OP, OP, OP, // D0
     RM, RM, RM, RM, RM, RM, RM, RM, // D8
@@ -92,7 +99,7 @@ static ONE_BYTE: [Tail; 256] = [
 /// The second bytes of opcodes behind 0F.
 static TWO_BYTE: [Tail; 256] = [
     RM, RM, RM, RM, OP, OP, OP, OP, // 00
-    OP, OP, OP, OP, RM, RM, RM, RM, // 08
+    OP, OP, OP, OP, RM, RM, OP, RM_1, // 08
     RM, RM, RM, RM, RM, RM, RM, RM, // 10
     RM, RM, RM, RM, RM, RM, RM, RM, // 18
     RM, RM, RM, RM, RM, RM, RM, RM, // 20
@@ -205,11 +212,10 @@ pub(crate) fn likely_len(first: u64) -> u8 {
 #[inline(never)]
 fn rest_of(tail: Tail, opcode: u64) -> u8 {
     let modrm = ((opcode >> 8) & 0xFF) as u8;
-    if tail.test != 0 && modrm & 0x30 == 0 {
-        return tail.test;
-    }
+    let immediate = if modrm & 0x30 == 0 { tail.test } else { 0 };
     if tail.modrm != 0 && modrm & 0xC7 == SIB_ALONE && (opcode >> 16) & 7 == 5 {
-        return 4;
+        immediate.wrapping_add(4)
+    } else {
+        immediate
     }
-    0
 }
