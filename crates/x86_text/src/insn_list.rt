@@ -5,7 +5,7 @@ ghost use Rattle.operation_defs.specs.declared.insn.Insn.{Insn};
 ghost use Rattle.x86_decode.specs.Decoding.{decoded, StandsInFront};
 ghost use Rattle.x86_text.specs.Code.{read_by, IsBoundary};
 ghost use Rattle.x86_text.specs.InsnLists.{AreNumbered};
-ghost use Rattle.x86_text.specs.ReadSoFar.{IsAdded};
+ghost use Rattle.x86_text.specs.Added.{IsAdded};
 ghost use Rattle.x86_text.specs.Refused.{IsTextFault};
 
 use crate::fault::TextFault;

@@ -1,9 +1,9 @@
 ghost use Rattle.std.specs.Prelude.{◌≡◌, ◌++◌, ◌+◌, ◌^◌, ◌<◌, ◌≤◌, ◌↔◌, ℕ, List, true, All, [], ◌∷◌, length, drop, filter, slice_get, slice_index_or, slice_range, Contains, is_some, IfOk, IfErr, OnOk, IfSome, IfNone, MatchBool, MatchOption};
 ghost use Rattle.std.specs.List.Sorted.{IsNonDecreasingBy};
 ghost use Rattle.x86_decode.specs.Decoding.{StandsInFront};
+ghost use Rattle.x86_text.specs.Added.{AddsCode};
 ghost use Rattle.x86_text.specs.Code.{may_use_table as may_use_a_table, read_by, code_of, insn_listed, insns_of, offsets_of, table_jumps_of, IsBoundary, IsCode, IsNextBoundary, IsPreviousBoundary, LeadsTo};
 ghost use Rattle.x86_text.specs.declared.placed.PlacedInsn.{PlacedInsn};
-ghost use Rattle.x86_text.specs.ReadSoFar.{IsKeptTo};
 ghost use Rattle.x86_text.specs.Refused.{IsTextFault};
 ghost use Rattle.operation_defs.specs.declared.insn.Insn.{Insn as InsnValue};
 
@@ -204,9 +204,10 @@ fn read_known(
     jumps: &mut Vec<PlacedInsn>,
     insns: &mut InsnList,
 ) -> Result<usize, NoMemory>
-    requires { length body.now ≤ 16_777_216 }
+    requires few { length body.now ≤ 16_777_216 }
+    requires boundary { from < length body.now → IsBoundary (read_by map body.now) from }
     ensures from { IfOk result (λ off. from ≤ off) }
-    ensures read { IfOk result (λ off. (before : List InsnValue) → IsKeptTo (read_by map body.now) offsets.old.items jumps.old.items before insns.old from → IsKeptTo (read_by map body.now) offsets.new.items jumps.new.items before insns.new off) }
+    ensures read { IfOk result (λ off. AddsCode (read_by map body.now) from off offsets.old.items offsets.new.items jumps.old.items jumps.new.items insns.old insns.new) }
 {
     let mut off = from;
     while off < body.len() {
@@ -234,7 +235,7 @@ fn read_one(
     requires boundary { IsBoundary (read_by map body.now) off }
     requires inside { off < length body.now }
     ensures behind { IfOk result (λ behind. off < behind) }
-    ensures read { IfOk result (λ behind. (before : List InsnValue) → IsKeptTo (read_by map body.now) offsets.old.items jumps.old.items before insns.old off → IsKeptTo (read_by map body.now) offsets.new.items jumps.new.items before insns.new behind) }
+    ensures read { IfOk result (λ behind. AddsCode (read_by map body.now) off behind offsets.old.items offsets.new.items jumps.old.items jumps.new.items insns.old insns.new) }
     ensures fault { IfErr result (IsTextFault (read_by map body.now)) }
 {
     let insn = insns.read(map, body, off)?;

@@ -1,8 +1,9 @@
-use Rattle.std.proofs.Common.{ℕ, ◌<◌, get_or, arith, sym}
+use Rattle.std.proofs.Common.{◌<◌, arith, sym}
 use Rattle.operation_defs.specs.declared.insn.Insn.{Insn}
-use Rattle.x86_text.specs.Code.{read_by}
-use Rattle.x86_text.proofs.KnownLemmas.{decoded_stands, decoded_only, decoded_lengths}
-use Rattle.x86_text.proofs.ReadLemmas.{kept_more}
+use Rattle.x86_text.specs.declared.placed.PlacedInsn.{PlacedInsn}
+use Rattle.x86_text.specs.Code.{Body, read_by}
+use Rattle.x86_text.proofs.KnownLemmas.{decoded_lengths}
+use Rattle.x86_text.proofs.ReadLemmas.{adds_nothing, adds_more, decoded_stands_in}
 use Rattle.x86_text.proofs.text.read_one.Goals as goal
 
 pub returns-clause-behind : goal.returns-clause-behind
@@ -11,12 +12,11 @@ returns-clause-behind c =
     omega arith
 
 pub returns-clause-read : goal.returns-clause-read
-returns-clause-read c = λ before kept.
-    let each : (k : ℕ) → get_or c.args.body.now k 0 < 256 = λ k. omega (arith, c.type_inv.body k) in
+returns-clause-read c =
+    let body : Body = read_by c.args.map c.args.body.now in
     let insn : Insn = c.in_ok-insn.insn in
-    let lengths = decoded_lengths c.args.body.now c.args.off each c.args.map insn c.in_ok-insn.ensures.insn in
-    kept_more (read_by c.args.map c.args.body.now) c.args.offsets.now.items c.push.new.self.items c.args.jumps.now.items c.push_table_jump.new.jumps.items before c.args.insns.now c.read.new.self c.args.off insn kept c.requires.inside c.in_ok-insn.ensures.insn
-    (decoded_stands c.args.body.now c.args.off each c.args.map insn c.in_ok-insn.ensures.insn)
-    (decoded_only c.args.body.now c.args.off each c.args.map insn c.in_ok-insn.ensures.insn)
-    lengths.0 lengths.2
+    let p : PlacedInsn = record { off = c.args.off; insn = insn } in
+    adds_more body c.args.off c.args.offsets.now.items c.args.offsets.now.items c.push.new.self.items c.args.jumps.now.items c.args.jumps.now.items c.push_table_jump.new.jumps.items c.args.insns.now c.args.insns.now c.read.new.self p
+    (adds_nothing body c.args.off c.args.offsets.now.items c.args.jumps.now.items c.args.insns.now)
+    (decoded_stands_in body (λ k. omega (arith, c.type_inv.body k)) c.args.off insn c.requires.boundary c.requires.inside c.in_ok-insn.ensures.insn)
     c.in_ok-push.ensures.items (c.in_ok-push_table_jump.ensures c.args.insns.now insn c.in_ok-insn.ensures.added (sym c.may_use_table.ensures)) c.in_ok-insn.ensures.added

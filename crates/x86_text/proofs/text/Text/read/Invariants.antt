@@ -1,6 +1,6 @@
 use Rattle.std.proofs.Common.{length, ◌-◌}
 use Rattle.x86_text.specs.Code.{read_by}
-use Rattle.x86_text.specs.ReadSoFar.{IsKeptTo}
+use Rattle.x86_text.proofs.ReadLemmas.{IsKeptTo}
 use Rattle.x86_text.proofs.text.Text.read.Given as goal
 
 abbrev pub invariant-loop-off : goal.invariant-loop-off
