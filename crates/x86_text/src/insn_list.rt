@@ -3,9 +3,9 @@
 ghost use Rattle.std.specs.Prelude.{◌≡◌, ◌<◌, ◌∷◌, ◌++◌, [], ℕ, true, Ok, Some, length, drop, slice_get, slice_set, IfErr, IfOk, IfSome, MatchOption, OnOk};
 ghost use Rattle.operation_defs.specs.declared.insn.Insn.{Insn};
 ghost use Rattle.x86_decode.specs.Decoding.{decoded, StandsInFront};
+ghost use Rattle.x86_text.specs.Added.{IsAdded};
 ghost use Rattle.x86_text.specs.Code.{read_by, IsBoundary};
 ghost use Rattle.x86_text.specs.InsnLists.{AreNumbered};
-ghost use Rattle.x86_text.specs.Added.{IsAdded};
 ghost use Rattle.x86_text.specs.Refused.{IsTextFault};
 
 use crate::fault::TextFault;
