@@ -60,7 +60,7 @@ GivesSo p n Closed = Unit {0}
 -- so states pass a point
 pub record IsPassage (p : Program) (n : ℕ) (passage : Passage) : Type 0 where
   pub takes : comes_in passage ≡ (not (p.unchecked n) && is_free (p.hint n))
-  pub neutral : lasts passage ≡ true → is_neutral (p.insn n).op ≡ true
+  pub neutral : lasts passage ≡ (comes_in passage && is_neutral (p.insn n).op)
   pub giving : GivesSo p n passage
 
 -- so they pass those below a number, of the points from 0 on that the list has

@@ -7,9 +7,8 @@ ghost use Rattle.std.specs.Prelude.{◌≡◌, ◌≢◌, ◌+◌, ◌<◌, ◌^
 ghost use Rattle.machine_defs.specs.Program.{Program};
 ghost use Rattle.machine_defs.specs.Kept.{edges_of, is_free as is_free_hint, state_at};
 ghost use Rattle.program_graph.specs.Tells.{Means, Tells};
-ghost use Rattle.kept_states.specs.Neutral.{is_neutral as is_neutral_op};
 ghost use Rattle.kept_states.specs.declared.passages.Passage.{Passage as PassageValue};
-ghost use Rattle.kept_states.specs.Passages.{AreLinked, ArePassages, AreToldBelow, IsOrdinary, IsPassage, IsStraight, comes_in, goes_straight_on, next_edge};
+ghost use Rattle.kept_states.specs.Passages.{AreLinked, ArePassages, AreToldBelow, IsOrdinary, IsPassage, IsStraight, comes_in, goes_straight_on, lasts, next_edge};
 
 use crate::neutral::is_neutral;
 use machine_defs::{Edge, EdgeKind};
@@ -58,9 +57,9 @@ impl Passage {
         }
     }
 
-    /// Whether a point's operation is told to leave each state as it is, and not to be a way out that a state has to allow.
+    /// Whether states come in along edges, and the operation leaves each as it is and isn't a way out that a state has to allow.
     pub(crate) fn is_lasting(self) -> bool
-        ensures { IsTrue result → (p : Program) (n : ℕ) → IsPassage p n self → is_neutral_op (p.insn n).op ≡ true }
+        ensures { result ≡ lasts self }
     {
         match self {
             Passage::LastsStraight | Passage::LastsAlongEdges | Passage::LastsSpecial => true,
