@@ -1,7 +1,8 @@
 -- How states pass points, told of one after another.
 use Rattle.std.specs.Prelude.{IsTrue}
-use Rattle.std.proofs.Common.{◌≡◌, ◌≢◌, ℕ, ◌+◌, ◌^◌, ◌<◌, ◌&&◌, Bool, true, false, not, Option, inl, inr, All, List, [], ◌∷◌, None, if◌then◌else◌, length, get_or, set, refl, sym, subst, arith, length-set}
+use Rattle.std.proofs.Common.{◌≡◌, ◌≢◌, ℕ, ◌+◌, ◌^◌, ◌<◌, ◌&&◌, ◌==◌, Bool, true, false, not, Option, inl, inr, All, Contains, List, [], ◌∷◌, None, if◌then◌else◌, length, get_or, set, refl, sym, subst, arith, length-set}
 use Rattle.std.proofs.lemmas.List.{get_or-set_same, get_or-set_other}
+use Rattle.unwinding_law.proofs.Lists.{here}
 use Rattle.state_defs.specs.declared.state.State.{State}
 use Rattle.machine_defs.specs.Program.{Program}
 use Rattle.machine_defs.specs.declared.flow.Edge.{Edge}
@@ -102,3 +103,8 @@ each_of_four true true true false h = absurd (let bad : false ≡ true = h in cc
 each_of_four true true false d h = absurd (let bad : false ≡ true = h in cc)
 each_of_four true false c d h = absurd (let bad : false ≡ true = h in cc)
 each_of_four false b c d h = absurd (let bad : false ≡ true = h in cc)
+
+-- a list that isn't empty has something
+pub something : (xs : List ℕ) → not (length xs == 0) ≡ true → (x : ℕ) × Contains xs x
+something [] h = absurd (let bad : false ≡ true = h in cc)
+something (x ∷ xs) h = (x, here x xs)
