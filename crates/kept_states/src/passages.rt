@@ -146,7 +146,7 @@ fn is_special(graph: &Graph, n: u32) -> bool
 /// Whether these edges of a point are one alone, a Next to the next point.
 #[inline(always)]
 pub(crate) fn lead_straight(edges: &[Edge], n: u32) -> bool
-    ensures edges { IsTrue result → edges.now ≡ next_edge n ∷ [] }
+    ensures edges { IsTrue result ↔ edges.now ≡ next_edge n ∷ [] }
     ensures fits { IsTrue result → n + 1 < 2 ^ 32 }
 {
     if edges.len() != 1 {
@@ -238,6 +238,7 @@ pub(crate) fn passage_at(passages: &[Passage], n: u32) -> Passage
 pub(crate) fn goes_straight(passages: &[Passage], n: u32) -> bool
     requires point { n < length passages.now }
     requires linked { AreLinked passages.now (length passages.now) }
+    ensures told { (d : PassageValue) → result ≡ goes_straight_on (slice_index_or passages.now n d) }
     ensures next { IsTrue result → n + 1 < length passages.now }
     ensures fits { IsTrue result → n + 1 < 2 ^ 32 }
     ensures straight { IsTrue result → (p : Program) → ArePassages p passages.now → IsStraight p n }
