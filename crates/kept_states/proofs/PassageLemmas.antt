@@ -1,7 +1,8 @@
 -- How states pass points, told of one after another.
 use Rattle.std.specs.Prelude.{IsTrue}
-use Rattle.std.proofs.Common.{◌≡◌, ◌≢◌, ℕ, ◌+◌, ◌^◌, ◌<◌, ◌&&◌, Bool, true, false, not, Option, inl, inr, All, List, [], ◌∷◌, None, if◌then◌else◌, length, get_or, set, refl, sym, subst, arith, length-set}
+use Rattle.std.proofs.Common.{◌≡◌, ◌≢◌, ℕ, ◌+◌, ◌^◌, ◌<◌, ◌&&◌, ◌==◌, Bool, true, false, not, Option, inl, inr, All, Contains, List, [], ◌∷◌, None, if◌then◌else◌, length, get_or, set, refl, sym, subst, arith, length-set}
 use Rattle.std.proofs.lemmas.List.{get_or-set_same, get_or-set_other}
+use Rattle.unwinding_law.proofs.Lists.{here}
 use Rattle.state_defs.specs.declared.state.State.{State}
 use Rattle.machine_defs.specs.Program.{Program}
 use Rattle.machine_defs.specs.declared.flow.Edge.{Edge}
@@ -11,6 +12,7 @@ use Rattle.operation_defs.specs.declared.op.Op.{Op}
 use Rattle.state_defs.specs.Move.{move}
 use Rattle.machine_defs.specs.Kept.{brought_along, is_at_entry, moved, state_at}
 use Rattle.kept_states.specs.declared.passages.Passage.{Passage}
+use Rattle.kept_states.specs.declared.passages.Passage.TheVariants.{LastsStraight, MovesStraight, LastsAlongEdges, MovesAlongEdges}
 use Rattle.kept_states.specs.Passages.{AreLinked, AreToldBelow, IsPassage, comes_in, goes_straight_on, next_edge}
 use Rattle.kept_states.proofs.Places.{same_or_not}
 
@@ -23,6 +25,21 @@ told_more p passages n passage inside own told k d less = elim (same_or_not n k)
   where
     below : k ≢ n → k < n
     below differ = elim (same_or_not n k) [ inl e ↦ absurd (differ e) | inr other ↦ (let h = other in grind arith) ]
+
+-- one is told of in another way
+pub told_otherwise : (p : Program) (passages : List Passage) (n m : ℕ) (passage any : Passage) → n < length passages → (IsPassage p n (get_or passages n any) → IsPassage p n passage) → AreToldBelow p passages m → AreToldBelow p (set passages n passage) m
+told_otherwise p passages n m passage any inside too told k d less = elim (same_or_not n k) [
+  | inl e ↦ subst (λ (i : ℕ). IsPassage p i (get_or (set passages n passage) i d)) (sym e)
+      (subst (IsPassage p n) (sym (get_or-set_same passages n passage d inside)) (too (subst (λ (i : ℕ). IsPassage p i (get_or passages i any)) e (told k any less))))
+  | inr differ ↦ subst (IsPassage p k) (sym (get_or-set_other passages n k passage d differ)) (told k d less)
+]
+
+-- so states pass a point too that is told to give to the next one alone, and needn't be
+pub lasts_along_edges : (p : Program) (n : ℕ) → IsPassage p n LastsStraight → IsPassage p n LastsAlongEdges
+lasts_along_edges p n own = record { takes = own.takes; neutral = own.neutral; giving = own.giving.0 }
+
+pub moves_along_edges : (p : Program) (n : ℕ) → IsPassage p n MovesStraight → IsPassage p n MovesAlongEdges
+moves_along_edges p n own = record { takes = own.takes; neutral = own.neutral; giving = own.giving.0 }
 
 -- one more that states come in at, or that no point before it gives to alone
 pub linked_more : (passages : List Passage) (n : ℕ) (passage : Passage) → n < length passages → (goes_straight_on passage ≡ true → (n + 1 < 2 ^ 32) × (n + 1 < length passages)) → ((k : ℕ) (d : Passage) → k + 1 ≡ n → goes_straight_on (get_or passages k d) ≡ true → comes_in passage ≡ true)
@@ -86,3 +103,8 @@ each_of_four true true true false h = absurd (let bad : false ≡ true = h in cc
 each_of_four true true false d h = absurd (let bad : false ≡ true = h in cc)
 each_of_four true false c d h = absurd (let bad : false ≡ true = h in cc)
 each_of_four false b c d h = absurd (let bad : false ≡ true = h in cc)
+
+-- a list that isn't empty has something
+pub something : (xs : List ℕ) → not (length xs == 0) ≡ true → (x : ℕ) × Contains xs x
+something [] h = absurd (let bad : false ≡ true = h in cc)
+something (x ∷ xs) h = (x, here x xs)

@@ -1,6 +1,7 @@
 -- The states of packed forms.
-use Rattle.std.specs.Prelude.{ℕ, List, [], ◌∷◌, Some, None, pos, slice_index_or, true, false, suc, if◌then◌else◌}
+use Rattle.std.specs.Prelude.{Bool, ◌&&◌, ℕ, List, [], ◌∷◌, Some, None, pos, slice_index_or, true, false, suc, if◌then◌else◌}
 use Rattle.state_defs.specs.declared.state.State.{State}
+use Rattle.state_defs.specs.Row.{has_16_bits}
 use Rattle.state_defs.specs.declared.state.State.TheVariants.{Live, Ended}
 use Rattle.state_defs.specs.declared.state.State.TheVariants as states
 use Rattle.state_defs.specs.declared.state.EndKind.TheVariants as ends
@@ -30,6 +31,10 @@ with_numbers FullRegs n = states.Regs true n.depth
 
 abbrev pub state_of_parts : Parts → State
 state_of_parts p = with_numbers p.shape p.numbers
+
+-- whether each number has 16 bits
+abbrev pub has_short_numbers : Numbers → Bool
+has_short_numbers n = has_16_bits n.depth && has_16_bits n.fp && has_16_bits n.home
 
 -- the numbers that stand in a slot
 abbrev pub short_numbers : Slot → Numbers

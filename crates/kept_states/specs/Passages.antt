@@ -1,9 +1,9 @@
 -- How states pass points, as far as that doesn't depend on them.
-use Rattle.std.specs.Prelude.{◌≡◌, ℕ, ◌+◌, ◌<◌, ◌^◌, ◌∷◌, [], ◌&&◌, Bool, not, true, false, List, None, length, slice_index_or}
+use Rattle.std.specs.Prelude.{◌≡◌, ◌≢◌, ◌⊎◌, ℕ, ◌+◌, ◌<◌, ◌^◌, ◌∷◌, [], ◌&&◌, Bool, not, true, false, List, None, length, slice_index_or}
 use Rattle.machine_defs.specs.declared.flow.Edge.{Edge}
 use Rattle.machine_defs.specs.declared.flow.EdgeKind.TheVariants.{Next}
 use Rattle.machine_defs.specs.Program.{Program}
-use Rattle.machine_defs.specs.Kept.{edges_of, is_free, state_at}
+use Rattle.machine_defs.specs.Kept.{edges_of, is_at_entry, is_free, state_at}
 use Rattle.program_graph.specs.Tells.{Means}
 use Rattle.kept_states.specs.Neutral.{is_neutral}
 use Rattle.kept_states.specs.declared.passages.Passage.{Passage}
@@ -18,8 +18,12 @@ pub record IsOrdinary (p : Program) (n : ℕ) : Type 0 where
   pub first : state_at p 0 n ≡ None
   pub meant : (r : ℕ) → Means p n r → ⊥
 
--- whether states come in there along edges, whether the operation is told to leave them as they are, and whether what the point
--- gives goes to the next one alone
+-- the point has a hint, a RESTORE means it, or control stands there that comes to an entry
+abbrev pub IsSpecial : Program → ℕ → Type 0
+IsSpecial p n = (p.hint n ≢ None) ⊎ ((r : ℕ) × Means p n r) ⊎ (is_at_entry p n ≡ true)
+
+-- whether states come in there along edges, whether they do and the operation is neutral, and whether what the point gives is
+-- told to go to the next one alone
 abbrev pub comes_in : Passage → Bool
 comes_in LastsStraight = true
 comes_in MovesStraight = true
@@ -53,14 +57,14 @@ GivesSo p n LastsStraight = IsOrdinary p n × (edges_of p n ≡ next_edge n ∷ 
 GivesSo p n MovesStraight = IsOrdinary p n × (edges_of p n ≡ next_edge n ∷ [])
 GivesSo p n LastsAlongEdges = IsOrdinary p n
 GivesSo p n MovesAlongEdges = IsOrdinary p n
-GivesSo p n LastsSpecial = Unit {0}
-GivesSo p n MovesSpecial = Unit {0}
+GivesSo p n LastsSpecial = IsSpecial p n
+GivesSo p n MovesSpecial = IsSpecial p n
 GivesSo p n Closed = Unit {0}
 
 -- so states pass a point
 pub record IsPassage (p : Program) (n : ℕ) (passage : Passage) : Type 0 where
   pub takes : comes_in passage ≡ (not (p.unchecked n) && is_free (p.hint n))
-  pub neutral : lasts passage ≡ true → is_neutral (p.insn n).op ≡ true
+  pub neutral : lasts passage ≡ (comes_in passage && is_neutral (p.insn n).op)
   pub giving : GivesSo p n passage
 
 -- so they pass those below a number, of the points from 0 on that the list has

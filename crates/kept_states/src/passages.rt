@@ -3,13 +3,12 @@
 //! What is told of all points stands in a list of its own, which is much shorter than the graph: while states spread, a
 //! level may have points far from each other, and most of them are passed without a look at the graph but for edges.
 
-ghost use Rattle.std.specs.Prelude.{◌≡◌, ◌≢◌, ◌+◌, ◌<◌, ◌^◌, ◌↔◌, ◌∷◌, ◌&&◌, ℕ, [], All, Contains, IfOk, IfSome, IsSome, IsTrue, None, false, length, not, slice_index_or, true};
+ghost use Rattle.std.specs.Prelude.{◌≡◌, ◌≢◌, ◌+◌, ◌<◌, ◌^◌, ◌↔◌, ◌∷◌, ◌&&◌, ◌⊎◌, ℕ, [], All, Contains, IfOk, IfSome, IsSome, IsTrue, None, false, length, not, slice_index_or, true};
 ghost use Rattle.machine_defs.specs.Program.{Program};
 ghost use Rattle.machine_defs.specs.Kept.{edges_of, is_free as is_free_hint, state_at};
 ghost use Rattle.program_graph.specs.Tells.{Means, Tells};
-ghost use Rattle.kept_states.specs.Neutral.{is_neutral as is_neutral_op};
 ghost use Rattle.kept_states.specs.declared.passages.Passage.{Passage as PassageValue};
-ghost use Rattle.kept_states.specs.Passages.{AreLinked, ArePassages, AreToldBelow, IsOrdinary, IsPassage, IsStraight, comes_in, goes_straight_on, next_edge};
+ghost use Rattle.kept_states.specs.Passages.{AreLinked, ArePassages, AreToldBelow, IsOrdinary, IsPassage, IsSpecial, IsStraight, comes_in, goes_straight_on, lasts, next_edge};
 
 use crate::neutral::is_neutral;
 use machine_defs::{Edge, EdgeKind};
@@ -20,7 +19,7 @@ use state_defs::HintState;
 use std::alloc::Global;
 
 /// How states pass a point. It is open where they come in along edges. They last where its operation leaves each of them as it
-/// is, and isn't a way out that a state has to allow; else they are told to move. And it gives something to other points.
+/// is, and isn't a way out that a state has to allow; else they move. And it gives something to other points.
 #[derive(Clone, Copy)]
 pub(crate) enum Passage {
     /// Open, and they last. It gives to the next point alone, along its one edge, which is a Next, and states come in there.
@@ -58,9 +57,9 @@ impl Passage {
         }
     }
 
-    /// Whether a point's operation is told to leave each state as it is, and not to be a way out that a state has to allow.
+    /// Whether states come in along edges, and the operation leaves each as it is and isn't a way out that a state has to allow.
     pub(crate) fn is_lasting(self) -> bool
-        ensures { IsTrue result → (p : Program) (n : ℕ) → IsPassage p n self → is_neutral_op (p.insn n).op ≡ true }
+        ensures { result ≡ lasts self }
     {
         match self {
             Passage::LastsStraight | Passage::LastsAlongEdges | Passage::LastsSpecial => true,
@@ -75,6 +74,7 @@ impl Passage {
     pub(crate) fn is_special(self) -> bool
         ensures first { result ≡ false → (p : Program) (n : ℕ) → IsPassage p n self → state_at p 0 n ≡ None }
         ensures meant { result ≡ false → (p : Program) (n : ℕ) → IsPassage p n self → (r : ℕ) → Means p n r → ⊥ }
+        ensures special { IsTrue result → comes_in self ≡ true → (p : Program) (n : ℕ) → IsPassage p n self → IsSpecial p n }
     {
         match self {
             Passage::LastsStraight
@@ -120,6 +120,7 @@ fn is_hinted(graph: &Graph, n: u32) -> bool
     requires { n < length graph.now.parts.points.items }
     ensures hint { result ≡ false → (p : Program) → Tells p graph.now.parts → p.hint n ≡ None }
     ensures meant { result ≡ false → (p : Program) → Tells p graph.now.parts → (r : ℕ) → Means p n r → ⊥ }
+    ensures hinted { IsTrue result → (p : Program) → Tells p graph.now.parts → (p.hint n ≢ None) ⊎ ((r : ℕ) × Means p n r) }
 {
     graph.hint(n).is_some() || !graph.restores(n).is_empty()
 }
@@ -132,11 +133,12 @@ fn takes_states(graph: &Graph, n: u32) -> bool
     is_free(graph.hint(n))
 }
 
-/// Whether a point may be of level 0, or meant by a RESTORE.
+/// Whether a point has a hint, or a RESTORE means it, or control stands there that comes to an entry. Else it isn't of level 0.
 fn is_special(graph: &Graph, n: u32) -> bool
     requires { n < length graph.now.parts.points.items }
     ensures first { result ≡ false → (p : Program) → Tells p graph.now.parts → state_at p 0 n ≡ None }
     ensures meant { result ≡ false → (p : Program) → Tells p graph.now.parts → (r : ℕ) → Means p n r → ⊥ }
+    ensures special { IsTrue result → (p : Program) → Tells p graph.now.parts → IsSpecial p n }
 {
     is_hinted(graph, n) || graph.is_entered(n)
 }
@@ -144,7 +146,7 @@ fn is_special(graph: &Graph, n: u32) -> bool
 /// Whether these edges of a point are one alone, a Next to the next point.
 #[inline(always)]
 pub(crate) fn lead_straight(edges: &[Edge], n: u32) -> bool
-    ensures edges { IsTrue result → edges.now ≡ next_edge n ∷ [] }
+    ensures edges { IsTrue result ↔ edges.now ≡ next_edge n ∷ [] }
     ensures fits { IsTrue result → n + 1 < 2 ^ 32 }
 {
     if edges.len() != 1 {
@@ -236,6 +238,7 @@ pub(crate) fn passage_at(passages: &[Passage], n: u32) -> Passage
 pub(crate) fn goes_straight(passages: &[Passage], n: u32) -> bool
     requires point { n < length passages.now }
     requires linked { AreLinked passages.now (length passages.now) }
+    ensures told { (d : PassageValue) → result ≡ goes_straight_on (slice_index_or passages.now n d) }
     ensures next { IsTrue result → n + 1 < length passages.now }
     ensures fits { IsTrue result → n + 1 < 2 ^ 32 }
     ensures straight { IsTrue result → (p : Program) → ArePassages p passages.now → IsStraight p n }

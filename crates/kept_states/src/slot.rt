@@ -1,10 +1,10 @@
 //! A state in 8 bytes.
 
-ghost use Rattle.std.specs.Prelude.{◌≡◌, IfSome, IsTrue, None, Ok, false, true};
+ghost use Rattle.std.specs.Prelude.{◌≡◌, IfSome, IsTrue, None, Ok, false, not, true};
 ghost use Rattle.state_defs.specs.Move.{has_near_numbers, move};
 ghost use Rattle.state_defs.specs.Row.{has_16_bits as has_16_bits_spec, unfit_offset};
 ghost use Rattle.kept_states.specs.declared.parts.Numbers.{Numbers as NumbersValue};
-ghost use Rattle.kept_states.specs.Packed.{short_numbers, state_in};
+ghost use Rattle.kept_states.specs.Packed.{has_short_numbers, short_numbers, state_in};
 ghost use Rattle.kept_states.specs.Words.{floor_in, is_live as is_live_shape};
 
 use crate::parts::{Numbers, Parts, Shape};
@@ -73,6 +73,7 @@ impl Slot {
     /// The slot of a state, by its parts.
     pub(crate) fn new(parts: &Parts) -> Slot
         ensures shape { result.shape ≡ parts.now.shape }
+        ensures wide { result.is_wide ≡ not (has_short_numbers parts.now.numbers) }
         ensures numbers { result.is_wide ≡ false → short_numbers result ≡ parts.now.numbers }
     {
         let Numbers { depth, fp, home } = parts.numbers;

@@ -342,8 +342,8 @@ impl Kept {
         self.levels.is_kept(n)
     }
 
-    /// Whether a point keeps a state whose numbers have 16 bits. Then a move that leaves it as it is isn't refused, and the
-    /// offsets of its row fit the format.
+    /// A quick test whether a point keeps a state whose numbers have 16 bits, and so have the offsets of its row. Where it says
+    /// so, a move that leaves the state as it is isn't refused, and the offsets fit the format.
     pub fn is_short(&self, n: u32) -> bool
         requires { n < length self.now }
         ensures some { IsTrue result → IsSome (at self.now n) }

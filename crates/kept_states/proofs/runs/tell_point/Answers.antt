@@ -10,7 +10,7 @@ returns-then-lead_straight-clause-told c p t told =
     let ordinary : IsOrdinary p c.args.n = record { first = not_first p c.args.n (some.hint refl p t) (some.entered refl p t); meant = some.meant refl p t } in
     let checked : p.unchecked c.args.n ≡ false = (let h = c.requires.checked p t in let i = c.if-not-is_checked.false in grind arith) in
     c.tell_linked.ensures.told p told
-    (c.straight_passage.ensures.passage p c.args.n (some.op p t) checked (some.hint refl p t) ordinary (sym (c.successors-edges.ensures.edges p t) ∙ c.if-lead_straight.ensures.edges refl))
+    (c.straight_passage.ensures.passage p c.args.n (some.op p t) checked (some.hint refl p t) ordinary (sym (c.successors-edges.ensures.edges p t) ∙ c.if-lead_straight.ensures.edges.0 refl))
 
 pub returns-clause-told : goal.returns-clause-told
 returns-clause-told c p t told =
@@ -23,5 +23,5 @@ returns-clause-told c p t told =
 pub tell_linked-requires-clause-own : goal.tell_linked-requires-clause-own
 tell_linked-requires-clause-own c straight =
     let points : ℕ = length c.args.graph.now.parts.points.items in
-    let inside : c.args.n + 1 < points = next_inside c.successors-edges.result.now c.args.n points (c.if-lead_straight.ensures.edges refl) c.successors-edges.ensures.within in
+    let inside : c.args.n + 1 < points = next_inside c.successors-edges.result.now c.args.n points (c.if-lead_straight.ensures.edges.0 refl) c.successors-edges.ensures.within in
     (c.if-lead_straight.ensures.fits refl, omega (arith, inside, c.requires.passages))
