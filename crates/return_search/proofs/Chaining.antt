@@ -2,6 +2,7 @@
 use Rattle.std.proofs.Common.{◌≡◌, ◌≢◌, ℕ, ◌+◌, ◌<◌, ◌≤◌, ◌⊎◌, inl, inr, Bool, cond, List, [], ◌∷◌, ◌++◌, Option, Some, None, replicate, length, get_or, set, refl, sym, ap, ◌∙◌, subst, arith, get_or-set_same, get_or-set_other, length-set}
 use Rattle.std.proofs.lemmas.List.{get_or_append_left, get_or_push, get_or-replicate, length_push, length-replicate}
 use Rattle.std.proofs.lemmas.Bool.{cases_eq, lt-ltb, le-ltb}
+use Rattle.return_search.specs.declared.chains.TheConstants.{OPEN}
 use Rattle.return_search.specs.Chained.{IsLastBelow, IsOpen, OpensNone, linked, no_number, AreChains}
 
 -- what is below a place stays as it is when more is put behind
@@ -54,20 +55,17 @@ linked_head keys key n head few h = elim (split_at head no_number) [
 ]
 
 -- no number yet
-abbrev open_head : ℕ
-open_head = 4294967295
-
-pub chains_none : (n : ℕ) → AreChains (replicate n 4294967295) [] []
+pub chains_none : (n : ℕ) → AreChains (replicate n OPEN) [] []
 chains_none n = record {
   long = refl;
-  last = λ key l. subst (IsLastBelow [] key 0) (sym (ap (linked no_number) (get_or-replicate n key 4294967295 0 (omega (arith, l, length-replicate n open_head))) ∙ linked_itself no_number 4294967295 (omega arith))) (λ j h. absurd (omega arith));
+  last = λ key l. subst (IsLastBelow [] key 0) (sym (ap (linked no_number) (get_or-replicate n key OPEN 0 (omega (arith, l, length-replicate n OPEN))) ∙ linked_itself no_number OPEN (omega arith))) (λ j h. absurd (omega arith));
   before = λ m key l. absurd (omega arith);
 }
 
 -- no number has an open key
 pub last_open : (heads links : List ℕ) (keys : List (Option ℕ)) (key : ℕ) → AreChains heads links keys → key < length heads → IsOpen heads key → IsLastBelow keys key (length keys) None
 last_open heads links keys key are inside is =
-    subst (IsLastBelow keys key (length keys)) (ap (linked no_number) is ∙ linked_itself no_number 4294967295 (omega arith)) (are.last key inside)
+    subst (IsLastBelow keys key (length keys)) (ap (linked no_number) is ∙ linked_itself no_number OPEN (omega arith)) (are.last key inside)
 
 -- an open key is closed
 pub chains_close : (heads links : List ℕ) (keys : List (Option ℕ)) (key : ℕ) → IsOpen heads key → key < length heads → AreChains heads links keys → AreChains (set heads key no_number) links keys

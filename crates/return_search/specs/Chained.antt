@@ -1,5 +1,6 @@
 -- What chains of numbers say of the keys of the numbers.
 use Rattle.std.specs.Prelude.{◌≡◌, ◌≢◌, ℕ, ◌<◌, List, Option, Some, None, length, slice_index, slice_index_or, nat_lt, if◌then◌else◌}
+use Rattle.return_search.specs.declared.chains.TheConstants.{OPEN, CLOSED}
 
 -- it is the last number below n that has the key, if there is one
 abbrev pub IsLastBelow : List (Option ℕ) → ℕ → ℕ → Option ℕ → Type 0
@@ -12,11 +13,11 @@ linked n link = if nat_lt link n then Some link else None
 
 -- no number is as great as this; a head says what a link of this would
 abbrev pub no_number : ℕ
-no_number = 4294967294
+no_number = CLOSED
 
 -- the key's head is that of open keys, which no number has
 abbrev pub IsOpen : List ℕ → ℕ → Type 0
-IsOpen heads key = slice_index heads key ≡ 4294967295
+IsOpen heads key = slice_index heads key ≡ OPEN
 
 -- no more keys are open than before
 abbrev pub OpensNone : List ℕ → List ℕ → Type 0

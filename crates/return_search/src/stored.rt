@@ -15,17 +15,17 @@ pub struct StoredEntry {
     number: u32,
 }
 
+const _: () = prove!(size_of::<StoredEntry>() == 4);
+
 impl Model for StoredEntry {
-    ghost use Rattle.std.specs.Prelude.{◌≤◌, ℕ, Option, unwrap_or};
-    ghost use Rattle.return_search.specs.Stored.{entry_stored_as};
+    ghost use Rattle.std.specs.Prelude.{ℕ, Option};
+    ghost use Rattle.return_search.specs.Stored.{entry_stored_as, number_of};
 
     ghost Value = { Option ℕ };
 
     ghost view = { λ s. entry_stored_as s.number };
 
-    ghost invariant = { λ s. s.number ≤ 4294967295 };
-
-    ghost inverse = { λ entry. record { number = unwrap_or entry 4294967295 } };
+    ghost inverse = { λ entry. record { number = number_of entry } };
 }
 
 impl StoredEntry {
@@ -84,16 +84,15 @@ pub struct StoredExit {
     code: u32,
 }
 
+const _: () = prove!(size_of::<StoredExit>() == 4);
+
 impl Model for StoredExit {
-    ghost use Rattle.std.specs.Prelude.{◌≤◌};
     ghost use Rattle.return_search.specs.declared.searched_flow.Exit.{Exit};
     ghost use Rattle.return_search.specs.Stored.{exit_stored_as, code_of};
 
     ghost Value = { Exit };
 
     ghost view = { λ s. exit_stored_as s.code };
-
-    ghost invariant = { λ s. s.code ≤ 4294967295 };
 
     ghost inverse = { λ exit. record { code = code_of exit } };
 }
