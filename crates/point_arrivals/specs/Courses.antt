@@ -27,7 +27,7 @@ is_room_course _ = false
 abbrev pub course_of_insn : Insn → InsnCourse
 course_of_insn insn = record { len = insn.len; course = course_of_op insn.op }
 
--- the course of the instruction of the point with a number: the point's own number tells where it stands among those that differ
+-- the course of the instruction of a point: the list of numbers says where it stands among the courses
 abbrev pub course_at : List InsnCourse → List ℕ → ℕ → Option InsnCourse
 course_at courses numbers n = option_and_then (slice_get courses) (slice_get numbers n)
 
