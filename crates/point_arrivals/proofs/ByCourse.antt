@@ -1,13 +1,12 @@
 -- Kinds of points by the courses of their instructions.
-use Rattle.std.proofs.Common.{◌≡◌, ℕ, ◌+◌, ◌<◌, Bool, true, false, not, ◌&&◌, List, length, refl, sym, ap, ◌∙◌, arith}
-use Rattle.std.specs.Prelude.{map, nat_lt, option_map, slice_get}
+use Rattle.std.proofs.Common.{◌≡◌, ℕ, ◌+◌, ◌<◌, Bool, true, false, not, ◌&&◌, if◌then◌else◌, List, length, get_or, Some, refl, sym, ap, ◌∙◌, subst, arith}
+use Rattle.std.specs.Prelude.{⊤, map, nat_lt, option_and_then, option_map, slice_get}
 use Rattle.std.specs.Cmp.{first_so, second_so}
-use Rattle.std.proofs.lemmas.Bool.{false≢true}
+use Rattle.std.proofs.lemmas.Bool.{and_left, and_right}
 use Rattle.std.proofs.lemmas.Bool.Decides.{nat_tests}
-use Rattle.std.proofs.lemmas.Option.{slice_get-map}
+use Rattle.std.proofs.lemmas.Option.{slice_get-get_or, slice_get-map}
 use Rattle.operation_defs.specs.declared.insn.Insn.{Insn}
 use Rattle.operation_defs.specs.declared.op.Op.{Op}
-use Rattle.operation_defs.specs.declared.op.Op.TheVariants.{AddSp, AndSp, Call, CallInd, Hop, Iret, Jcc, Jmp, JmpInd, LeaBpRoom, LeaBpSp, LeaSpBp, LoadBp, Ret, RetImm, SpReg, StoreBp, SubSp, Switch, Ud2}
 use Rattle.alternatives.specs.declared.point.Point.{Point}
 use Rattle.alternatives.specs.Texts.{behind}
 use Rattle.flow_defs.specs.Coded.{Coded}
@@ -30,100 +29,41 @@ use Rattle.point_arrivals.specs.declared.told.SeenPoint.{SeenPoint}
 use Rattle.point_arrivals.proofs.StraightOn.{one_point}
 use Rattle.point_arrivals.proofs.Untold.{followed_untold, straight_passes}
 
--- what courses tell of operations
-abbrev is_straight_course : Course → Bool
-is_straight_course Straight = true
-is_straight_course course = false
+-- what the course of an operation tells: of whether it is straight, is one by a number of the stack, and is a Ud2
+abbrev Tells : Course → Bool → Bool → Bool → Type 0
+Tells Straight straight offset ud2 = (straight ≡ true) × (offset ≡ false)
+Tells Turn straight offset ud2 = (straight ≡ false) × (ud2 ≡ false)
+Tells course straight offset ud2 = ⊤
 
-straight_is : (op : Op) → is_straight_course (course_of_op op) ≡ (is_straight_op op && (not (has_stack_offset op) && not (is_room op)))
-straight_is (Call rel) = refl
-straight_is CallInd = refl
-straight_is Hop = refl
-straight_is (Jmp rel wide) = refl
-straight_is (Jcc rel wide) = refl
-straight_is (JmpInd table) = refl
-straight_is Ret = refl
-straight_is RetImm = refl
-straight_is Iret = refl
-straight_is Switch = refl
-straight_is SubSp = refl
-straight_is SpReg = refl
-straight_is (AddSp by) = refl
-straight_is (AndSp mask) = refl
-straight_is (LeaSpBp by) = refl
-straight_is (LeaBpSp by) = refl
-straight_is (LeaBpRoom by) = refl
-straight_is (StoreBp at) = refl
-straight_is (LoadBp at) = refl
-straight_is Ud2 = refl
-straight_is op = refl
+tells_by : (room offset ud2 straight : Bool) → Tells (if room then Room else if offset then Offset else if ud2 then Stop else if straight then Straight else Turn) straight offset ud2
+tells_by true offset ud2 straight = tt
+tells_by false true ud2 straight = tt
+tells_by false false true straight = tt
+tells_by false false false true = (refl, refl)
+tells_by false false false false = (refl, refl)
 
-abbrev is_turn : Course → Bool
-is_turn Turn = true
-is_turn course = false
-
-turn_is : (op : Op) → is_turn (course_of_op op) ≡ (not (is_straight_op op) && not (is_ud2 op))
-turn_is (Call rel) = refl
-turn_is CallInd = refl
-turn_is Hop = refl
-turn_is (Jmp rel wide) = refl
-turn_is (Jcc rel wide) = refl
-turn_is (JmpInd table) = refl
-turn_is Ret = refl
-turn_is RetImm = refl
-turn_is Iret = refl
-turn_is Switch = refl
-turn_is SubSp = refl
-turn_is SpReg = refl
-turn_is (AddSp by) = refl
-turn_is (AndSp mask) = refl
-turn_is (LeaSpBp by) = refl
-turn_is (LeaBpSp by) = refl
-turn_is (LeaBpRoom by) = refl
-turn_is (StoreBp at) = refl
-turn_is (LoadBp at) = refl
-turn_is Ud2 = refl
-turn_is op = refl
-
-is_not : (b : Bool) → not b ≡ true → b ≡ false
-is_not true h = absurd (false≢true h)
-is_not false h = refl
-
-both : (plain straight offset relocated : Bool) → plain ≡ true → straight ≡ true → not offset ≡ true → (plain && (straight && not (offset && relocated))) ≡ true
-both true true false relocated p s o = refl
-both true true true relocated p s o = absurd (false≢true o)
-both true false offset relocated p s o = absurd (false≢true s)
-both false straight offset relocated p s o = absurd (false≢true p)
-
-neither : (plain straight still : Bool) → not straight ≡ true → (plain && (straight && still)) ≡ false
-neither true false still s = refl
-neither false false still s = refl
-neither plain true still s = absurd (false≢true s)
+tells : (course : Course) (op : Op) → course ≡ course_of_op op → Tells course (is_straight_op op) (has_stack_offset op) (is_ud2 op)
+tells course op is =
+    subst (λ (it : Course). Tells it (is_straight_op op) (has_stack_offset op) (is_ud2 op)) (sym is)
+    (tells_by (is_room op) (has_stack_offset op) (is_ud2 op) (is_straight_op op))
 
 -- a straight instruction, and one that isn't
 straight_insn : (o : Coded) (n : ℕ) → is_plain (point_at o n) ≡ true → Straight ≡ course_of_op (decoded_insn o (point_at o n)).op → is_straight_insn o n ≡ true
 straight_insn o n plain is =
     let p : Point = point_at o n in
     let op : Op = (decoded_insn o p).op in
-    let rest : Bool = not (has_stack_offset op) && not (is_room op) in
-    let told : (is_straight_op op && rest) ≡ true = sym (ap is_straight_course is ∙ straight_is op) in
-    both (is_plain p) (is_straight_op op) (has_stack_offset op) (is_relocated o.elf p.place (decoded_insn o p).len) plain
-    (first_so (is_straight_op op) rest told)
-    (first_so (not (has_stack_offset op)) (not (is_room op)) (second_so (is_straight_op op) rest told))
+    let relocated : Bool = is_relocated o.elf p.place (decoded_insn o p).len in
+    let told : (is_straight_op op ≡ true) × (has_stack_offset op ≡ false) = tells Straight op is in
+    ap (λ b. b && (is_straight_op op && not (has_stack_offset op && relocated))) plain
+    ∙ ap (λ b. b && not (has_stack_offset op && relocated)) told.0
+    ∙ ap (λ b. not (b && relocated)) told.1
 
-turning : (o : Coded) (n : ℕ) → Turn ≡ course_of_op (decoded_insn o (point_at o n)).op → (not (is_straight_op (decoded_insn o (point_at o n)).op) && not (is_ud2 (decoded_insn o (point_at o n)).op)) ≡ true
-turning o n is = sym (ap is_turn is ∙ turn_is (decoded_insn o (point_at o n)).op)
-
-turning_insn : (o : Coded) (n : ℕ) → Turn ≡ course_of_op (decoded_insn o (point_at o n)).op → is_straight_insn o n ≡ false
-turning_insn o n is =
+turning_insn : (o : Coded) (n : ℕ) → is_straight_op (decoded_insn o (point_at o n)).op ≡ false → is_straight_insn o n ≡ false
+turning_insn o n turns =
     let p : Point = point_at o n in
     let op : Op = (decoded_insn o p).op in
-    neither (is_plain p) (is_straight_op op) (not (has_relocated_offset o p (decoded_insn o p))) (first_so (not (is_straight_op op)) (not (is_ud2 op)) (turning o n is))
-
-turning_passes : (o : Coded) (n : ℕ) → Turn ≡ course_of_op (decoded_insn o (point_at o n)).op → is_ud2 (decoded_insn o (point_at o n)).op ≡ false
-turning_passes o n is =
-    let op : Op = (decoded_insn o (point_at o n)).op in
-    is_not (is_ud2 op) (second_so (not (is_straight_op op)) (not (is_ud2 op)) (turning o n is))
+    let still : Bool = not (has_relocated_offset o p (decoded_insn o p)) in
+    and_right (is_plain p) (is_straight_op op && still) (and_left (is_straight_op op) still turns)
 
 -- the kind of a point of whose place and of where it ends nothing is told
 kind_followed : (o : Coded) (n : ℕ) (course : Course) (kind : Kind) → course ≡ course_of_op (decoded_insn o (point_at o n)).op → is_plain (point_at o n) ≡ true → (is_plain (point_at o n) && is_next_at o n (end_of o n)) ≡ true → is_among (told_places_of o) (point_at o n).place ≡ false → is_among (told_places_of o) (end_of o n) ≡ false → IsFollowedKind course kind → kind ≡ kind_of o n
@@ -131,7 +71,8 @@ kind_followed o n Straight kind is plain next here ends_there told =
     let straight : is_straight_insn o n ≡ true = straight_insn o n plain is in
     told ∙ followed_untold o n (told_places_of o) (record { same = λ place. refl }) (straight_passes o n straight) here ends_there true next straight
 kind_followed o n Turn kind is plain next here ends_there told =
-    told ∙ followed_untold o n (told_places_of o) (record { same = λ place. refl }) (turning_passes o n is) here ends_there false next (turning_insn o n is)
+    let turns : (is_straight_op (decoded_insn o (point_at o n)).op ≡ false) × (is_ud2 (decoded_insn o (point_at o n)).op ≡ false) = tells Turn (decoded_insn o (point_at o n)).op is in
+    told ∙ followed_untold o n (told_places_of o) (record { same = λ place. refl }) turns.1 here ends_there false next (turning_insn o n turns.0)
 kind_followed o n Room kind is plain next here ends_there told = absurd told
 kind_followed o n Offset kind is plain next here ends_there told = absurd told
 kind_followed o n Stop kind is plain next here ends_there told = absurd told
@@ -160,7 +101,10 @@ kind_seen o n course point next kind inside course_is seen next_seen untold next
 
 -- the courses of the instructions that differ are those of the points
 pub courses_of : (o : Coded) (insns : List Insn) (numbers : List ℕ) (courses : List InsnCourse) → AreDecoded o insns numbers → courses ≡ map course_of_insn insns → AreCourses o courses numbers
-courses_of o insns numbers courses decoded is = record {
-  long = decoded.long;
-  each = λ n k here. ap (λ (list : List InsnCourse). slice_get list k) is ∙ slice_get-map course_of_insn insns k ∙ ap (λ x. option_map course_of_insn x) (decoded.each n k here);
-}
+courses_of o insns numbers courses decoded is n inside =
+    let k : ℕ = get_or numbers n 0 in
+    let numbered : slice_get numbers n ≡ Some k = slice_get-get_or numbers n 0 (omega (arith, inside, decoded.long)) in
+    ap (λ x. option_and_then (slice_get courses) x) numbered
+    ∙ ap (λ (list : List InsnCourse). slice_get list k) is
+    ∙ slice_get-map course_of_insn insns k
+    ∙ ap (λ x. option_map course_of_insn x) (decoded.each n k numbered)

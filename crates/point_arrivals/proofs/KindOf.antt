@@ -54,13 +54,14 @@ listed_kind o n = by (is_listed o (point_at o n)) (ends_at_next o n) (is_straigh
     by false true false = refl
     by false false straight = refl
 
-pub followed_kind : (o : Coded) (n : ℕ) → is_followed_kind (kind_of o n) ≡ true → ends_at_next o n ≡ true
+pub followed_kind : (o : Coded) (n : ℕ) → is_followed_kind (kind_of o n) ≡ (not (is_listed o (point_at o n)) && ends_at_next o n)
 followed_kind o n = by (is_listed o (point_at o n)) (ends_at_next o n) (is_straight_insn o n)
   where
-    by : (listed followed straight : Bool) → is_followed_kind (kind_by listed followed straight) ≡ true → followed ≡ true
-    by listed true straight is = refl
-    by true false straight is = is
-    by false false straight is = is
+    by : (listed followed straight : Bool) → is_followed_kind (kind_by listed followed straight) ≡ (not listed && followed)
+    by true followed straight = refl
+    by false true true = refl
+    by false true false = refl
+    by false false straight = refl
 
 -- none yet
 pub none_yet : (o : Coded) → AreKinds o [] 0

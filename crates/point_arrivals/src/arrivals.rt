@@ -5,12 +5,13 @@ ghost use Rattle.flow_defs.specs.Arrival.{after as points_following, arrive as p
 ghost use Rattle.flow_defs.specs.Code.{point_at, points_of_object};
 ghost use Rattle.flow_defs.specs.Edges.{fixups as fixups_of, static_targets as static_targets_of};
 ghost use Rattle.point_arrivals.specs.Kinds.{kind_of};
+ghost use Rattle.point_arrivals.specs.Next.{next_alone, number_alone};
 ghost use Rattle.point_arrivals.specs.Straight.{is_straight as is_straight_point, IsStraight};
 
 use crate::course::list_courses;
 use crate::courses::Courses;
 use crate::kind::Kind;
-use crate::kinds::list_kinds;
+use crate::kinds::{count_points, list_kinds};
 use crate::lists::PointLists;
 use object_points::PointPlaces;
 use operation_defs::Insn;
@@ -121,11 +122,12 @@ impl<'l, 'o, 'a> PointArrivals<'l, 'o, 'a> {
         self.lists.after(alloc, n)
     }
 
-    /// The number of the one point at which control stands that comes to a place, where it is told without a list: no site
-    /// starts there. It is found at once where it is the guessed one.
+    /// The number of the one point at which control stands that comes to a place where no site starts: of the plain point
+    /// there. It is found at once where it is the guessed one.
     #[inline(always)]
     pub fn arrive_alone(&self, place: Place, guess: u32) -> Option<u32>
-        ensures { IfSome result (λ q. points_coming_to self.now place ≡ q ∷ []) }
+        ensures exact { result ≡ number_alone self.now place }
+        ensures alone { IfSome result (λ q. points_coming_to self.now place ≡ q ∷ []) }
     {
         self.lists.arrive_alone(place, guess)
     }
@@ -134,12 +136,15 @@ impl<'l, 'o, 'a> PointArrivals<'l, 'o, 'a> {
     #[inline(always)]
     pub fn after_alone(&self, n: u32) -> Option<u32>
         requires { n < length (points_of_object self.now) }
-        ensures { IfSome result (λ q. points_following self.now (point_at self.now n) ≡ q ∷ []) }
+        ensures exact { result ≡ next_alone self.now n }
+        ensures alone { IfSome result (λ q. points_following self.now (point_at self.now n) ≡ q ∷ []) }
     {
         if !self.kind(n).is_followed() {
             return None;
         }
-        n.checked_add(1)
+        // The number of points has 32 bits, and so has the next point's.
+        count_points(self.places());
+        Some(n + 1)
     }
 
     /// Whether nothing follows a point: behind it its section ends.

@@ -6,6 +6,7 @@ ghost use Rattle.flow_defs.specs.Arrival.{arrive as points_coming_to};
 ghost use Rattle.flow_defs.specs.Code.{alternatives_of};
 ghost use Rattle.object_points.specs.Places.{HaveSamePlaces};
 ghost use Rattle.point_arrivals.specs.Lists.{original_places_of};
+ghost use Rattle.point_arrivals.specs.Next.{number_alone};
 
 use alternatives::Point;
 use object_points::{PlaceSet, PointPlaces};
@@ -49,8 +50,8 @@ pub(crate) fn arrive(
     Ok(points)
 }
 
-/// The number of the one point at which control stands that comes to a place, where it is told without a list. It is found at
-/// once where it is the guessed one.
+/// The number of the one point at which control stands that comes to a place where no site starts: of the plain point there. It
+/// is found at once where it is the guessed one.
 #[inline(always)]
 pub(crate) fn arrive_alone(
     places: &PointPlaces<'_, '_, '_>,
@@ -59,9 +60,10 @@ pub(crate) fn arrive_alone(
     guess: u32,
 ) -> Option<u32>
     requires { HaveSamePlaces (original_places_of (alternatives_of places.now)) originals.now }
-    ensures { IfSome result (λ q. points_coming_to places.now place ≡ q ∷ []) }
+    ensures exact { result ≡ number_alone places.now place }
+    ensures alone { IfSome result (λ q. points_coming_to places.now place ≡ q ∷ []) }
 {
-    if originals.may_contain(place) {
+    if originals.contains(place) {
         return None;
     }
     let variant = 0;

@@ -11,7 +11,7 @@ ghost use Rattle.point_arrivals.specs.Low.{AreLow};
 ghost use Rattle.point_arrivals.specs.Seen.{IsSeen};
 
 use crate::course::InsnCourse;
-use crate::courses::{Courses, course_at};
+use crate::courses::Courses;
 use crate::kind::Kind;
 use crate::lists::PointLists;
 use crate::low::points_are_low;
@@ -22,7 +22,7 @@ use ot_base::NoMemory;
 use std::alloc::Global;
 
 /// How many points there are.
-fn count_points(places: &PointPlaces<'_, '_, '_>) -> u32
+pub(crate) fn count_points(places: &PointPlaces<'_, '_, '_>) -> u32
     ensures { result ≡ length (points_of_object places.now) }
 {
     places.linked().sites().point_count()
@@ -87,13 +87,12 @@ fn list_before(
     ensures len { vec_len kinds.new ≡ last }
     ensures room { vec_capacity kinds.new ≡ vec_capacity kinds.old }
 {
-    let places = lists.places();
-    let linked = places.linked();
+    let linked = lists.places().linked();
     points_are_low(linked);
     let mut point = see_point(linked, told, 0);
     for n in 0..last {
         let next = see_point(linked, told, n + 1);
-        let course = course_at(places, courses, n);
+        let course = courses.at(n);
         kinds.push_reserved(kind_of(lists, n, course, point, next));
         point = next;
     }

@@ -9,6 +9,7 @@ ghost use Rattle.object_points.specs.Places.{HaveSamePlaces};
 ghost use Rattle.point_arrivals.specs.Courses.{AreCourses};
 ghost use Rattle.point_arrivals.specs.Lists.{AreListsOf, told_places_of};
 ghost use Rattle.point_arrivals.specs.Marks.{is_listed as is_listed_point};
+ghost use Rattle.point_arrivals.specs.Next.{number_alone};
 ghost use Rattle.point_arrivals.specs.Straight.{ends_at_next as ends_at_next_point};
 
 use crate::arrive::{arrive, arrive_alone};
@@ -138,11 +139,12 @@ impl<'l, 'o, 'a> PointLists<'l, 'o, 'a> {
         after(alloc, &self.places, &self.originals, n)
     }
 
-    /// The number of the one point at which control stands that comes to a place, where it is told without a list: no site
-    /// starts there. It is found at once where it is the guessed one.
+    /// The number of the one point at which control stands that comes to a place where no site starts: of the plain point
+    /// there. It is found at once where it is the guessed one.
     #[inline(always)]
     pub(crate) fn arrive_alone(&self, place: Place, guess: u32) -> Option<u32>
-        ensures { IfSome result (λ q. points_coming_to self.now place ≡ q ∷ []) }
+        ensures exact { result ≡ number_alone self.now place }
+        ensures alone { IfSome result (λ q. points_coming_to self.now place ≡ q ∷ []) }
     {
         arrive_alone(&self.places, &self.originals, place, guess)
     }

@@ -1,6 +1,6 @@
 //! The instruction of a point: what the program makes of the one that is decoded.
 
-ghost use Rattle.std.specs.Prelude.{◌≡◌, ◌<◌, ◌&&◌, Some, if◌then◌else◌, length, All, IfOk, IsTrue};
+ghost use Rattle.std.specs.Prelude.{◌≡◌, ◌<◌, ◌&&◌, Some, if◌then◌else◌, length, not, All, IfOk, IsTrue};
 ghost use Rattle.alternatives.specs.declared.point.Point.{Point};
 ghost use Rattle.flow_defs.specs.Tables.{same_owner};
 ghost use Rattle.flow_defs.specs.Coded.{Coded};
@@ -29,7 +29,8 @@ fn may_be_remade(op: Op) -> bool
 
 /// Whether an operation stays as it is decoded, wherever it stands: the program makes no other one of it.
 pub fn stays_decoded(op: Op) -> bool
-    ensures { IsTrue result → (o : Coded) (p : Point) → (decoded_insn o p).op ≡ op → insn_of_object o p ≡ decoded_insn o p }
+    ensures exact { result ≡ not (is_remade op) }
+    ensures stays { IsTrue result → (o : Coded) (p : Point) → (decoded_insn o p).op ≡ op → insn_of_object o p ≡ decoded_insn o p }
 {
     !may_be_remade(op)
 }

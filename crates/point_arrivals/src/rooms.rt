@@ -8,7 +8,7 @@ ghost use Rattle.flow_defs.specs.Owners.{owner_of_point};
 ghost use Rattle.point_arrivals.specs.Courses.{AreCourses};
 ghost use Rattle.point_arrivals.specs.Remade.{AreRooms, room_owner as room_owner_of};
 
-use crate::courses::{Courses, course_at};
+use crate::courses::Courses;
 use object_points::{PointPlaces, is_among};
 use ot_base::NoMemory;
 use std::alloc::Global;
@@ -19,7 +19,7 @@ fn room_owner(places: &PointPlaces<'_, '_, '_>, courses: Courses<'_>, n: u32) ->
     requires point { n < length (points_of_object places.now) }
     ensures { result ≡ room_owner_of places.now n }
 {
-    if course_at(places, courses, n).course.is_room() {
+    if courses.at(n).course.is_room() {
         places.owner(n)
     } else {
         None

@@ -1,4 +1,4 @@
-use Rattle.std.proofs.Common.{◌≡◌, ℕ, [], ◌∷◌, false, Option, Some, None, sym, ◌∙◌}
+use Rattle.std.proofs.Common.{◌≡◌, ℕ, [], ◌∷◌, false, if◌then◌else◌, Option, Some, None, sym, ap, ◌∙◌}
 use Rattle.std.specs.Prelude.{IfSome}
 use Rattle.ot_base.specs.declared.place.Place.{Place}
 use Rattle.flow_defs.specs.Coded.{Coded}
@@ -15,6 +15,9 @@ by o place (Some n) none is = alone_is o place n none (sym is)
 
 pub returns : goal.returns
 returns c =
-    by c.args.places.now c.args.place c.number_by_guess.result
-    (sym (c.requires.same c.args.place) ∙ c.may_contain.ensures c.if-may_contain.false)
-    c.number_by_guess.ensures
+    let o : Coded = c.args.places.now in
+    let place : Place = c.args.place in
+    let none : is_among (original_places_of (alternatives_of o)) place ≡ false = sym (c.requires.same place) ∙ sym c.contains.ensures ∙ c.if-contains.false in record {
+      exact = c.number_by_guess.ensures ∙ sym (ap (λ b. if b then None else number_of o (plain_point place)) none);
+      alone = by o place c.number_by_guess.result none c.number_by_guess.ensures;
+    }

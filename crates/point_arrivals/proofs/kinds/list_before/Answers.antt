@@ -19,5 +19,5 @@ loop-n-preserved c =
           (one_more o c.loop-n.kinds.items n c.kind_of.result c.loop-n.invariant.0 c.kind_of.ensures),
       omega (arith, c.push_reserved.ensures.len, c.loop-n.invariant.1),
       c.push_reserved.ensures.capacity ∙ c.loop-n.invariant.2,
-      seen_in c.linked-linked.result.now o (n + 1) c.see_point-next.result (c.linked-linked.ensures ∙ c.places-places.ensures) c.see_point-next.ensures,
+      seen_in c.linked-linked.result.now o (n + 1) c.see_point-next.result (c.linked-linked.ensures ∙ c.places.ensures) c.see_point-next.ensures,
     )

@@ -9,6 +9,6 @@ is_not : (b : Bool) → not b ≡ true → b ≡ false
 is_not true is = absurd (false≢true is)
 is_not false is = refl
 
-pub returns : goal.returns
-returns c = λ is o p op.
+pub returns-clause-stays : goal.returns-clause-stays
+returns-clause-stays c = λ is o p op.
     sym (same_insn o p (decoded_insn o p) refl (ap may_be_remade op ∙ sym c.may_be_remade.ensures ∙ is_not c.may_be_remade.result is))

@@ -19,7 +19,7 @@ loop-k-preserved c =
     let own : slice_get insns k ≡ Some insn = slice_get-get_or insns k _ inside in
     let is_kind : c.usual_kind.result ≡ usual_kind insn = c.usual_kind.ensures in
     let grown : c.push.new.self.items ≡ kinds ++ usual_kind insn ∷ [] = c.in_ok-push.ensures.items ∙ ap (λ (x : PointKind). kinds ++ x ∷ []) is_kind in
-    let more : AreUsual insns (kinds ++ usual_kind insn ∷ []) (stay ++ c.stays_decoded.result ∷ []) (k + 1) = usual_more insns kinds stay k insn c.stays_decoded.result c.loop-k.invariant.1 own (λ is. stays_all insn (c.stays_decoded.ensures is)) c.loop-k.invariant.0 in (
+    let more : AreUsual insns (kinds ++ usual_kind insn ∷ []) (stay ++ c.stays_decoded.result ∷ []) (k + 1) = usual_more insns kinds stay k insn c.stays_decoded.result c.loop-k.invariant.1 own (λ is. stays_all insn (c.stays_decoded.ensures.stays is)) c.loop-k.invariant.0 in (
       subst (λ (ks : List PointKind). AreUsual insns ks c.push-in-loop-k.new.self.items (k + 1)) (sym grown)
           (subst (λ (bs : List Bool). AreUsual insns (kinds ++ usual_kind insn ∷ []) bs (k + 1)) (sym c.in_ok-push-2.ensures.items) more),
       ap length grown ∙ length_push kinds (usual_kind insn) ∙ ap (λ (m : ℕ). m + 1) c.loop-k.invariant.1,
