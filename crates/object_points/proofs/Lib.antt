@@ -25,5 +25,7 @@ pub mod Finding
 pub mod ListedHints
 pub mod Nearest
 pub mod Listing
+mod EitherPlaces
+mod Onward
 pub mod Meant
 pub mod TextsLemmas

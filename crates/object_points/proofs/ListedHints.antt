@@ -64,7 +64,7 @@ in-rest : {Y : Type 0} (made : Option Y) (rest : List Y) (y : Y) → In y rest �
 in-rest None rest y h = h
 in-rest (Some z) rest y h = inr h
 
-in-made : {X Y : Type 0} (f : X → Option Y) (xs : List X) (x : X) (y : Y) → In x xs → f x ≡ Some y → In y (filter_map f xs)
+pub in-made : {X Y : Type 0} (f : X → Option Y) (xs : List X) (x : X) (y : Y) → In x xs → f x ≡ Some y → In y (filter_map f xs)
 in-made f [] x y h is = absurd h
 in-made f (z ∷ xs) x y (inl same) is = in-front (f z) (filter_map f xs) y (ap f same ∙ is)
 in-made f (z ∷ xs) x y (inr h) is = in-rest (f z) (filter_map f xs) y (in-made f xs x y h is)

@@ -1,5 +1,5 @@
 -- The points with a SAVE or a RESTORE, up to a number.
-use Rattle.std.proofs.Common.{◌≡◌, ℕ, ◌+◌, ◌≤◌, Bool, true, false, cond, List, [], ◌∷◌, ◌++◌, filter, map, length, sym, ap, ◌∙◌, append-nil}
+use Rattle.std.proofs.Common.{◌≡◌, ℕ, ◌+◌, Bool, true, false, cond, List, [], ◌∷◌, ◌++◌, filter, map, sym, ap, ◌∙◌, append-nil}
 use Rattle.std.specs.List.{range_with_len}
 use Rattle.std.proofs.lemmas.List.Elements.{filter-append}
 use Rattle.flow_defs.specs.Coded.{Coded}
@@ -12,12 +12,6 @@ kept_more p n b is =
     ap (filter p) (range_more n)
     ∙ filter-append p (range_with_len 0 n) (n ∷ [])
     ∙ ap (λ c. filter p (range_with_len 0 n) ++ cond c (n ∷ []) []) is
-
--- those below a number
-pub record AreListed (o : Coded) (n : ℕ) (saves : List SavePoint) (restores : List ℕ) : Type 0 where
-  pub all_saves : saves ≡ map (save_at o) (filter (is_save_at o) (range_with_len 0 n))
-  pub all_restores : restores ≡ filter (is_restore_at o) (range_with_len 0 n)
-  pub few : length restores ≤ n
 
 -- one more
 module _ (o : Coded) (n : ℕ) where

@@ -1,12 +1,18 @@
 -- The points of an object that have a SAVE or a RESTORE.
-use Rattle.std.specs.Prelude.{ℕ, Bool, List, filter, length, map}
+use Rattle.std.specs.Prelude.{◌≡◌, ℕ, ◌<◌, ◌≤◌, ◌||◌, Bool, true, false, List, filter, length, map, Option, Some, None, if◌then◌else◌}
 use Rattle.std.specs.List.{range_with_len}
 use Rattle.std.specs.List.Sorted.{IsPermutation}
+use Rattle.ot_base.specs.declared.place.Place.{Place}
+use Rattle.ot_base.specs.Places.{is_before}
+use Rattle.state_defs.specs.declared.state.HintState.{HintState}
+use Rattle.special_sections.specs.declared.entries.HintEntry.{HintEntry}
+use Rattle.special_sections.specs.HintStates.{hint_at, hint_state}
 use Rattle.flow_defs.specs.Coded.{Coded}
 use Rattle.alternatives.specs.Points.{address_of_point}
 use Rattle.flow_defs.specs.Code.{alternatives_of, point_at, points_of_object}
 use Rattle.flow_defs.specs.Hints.{hint_of, is_restore, is_save}
 use Rattle.flow_defs.specs.Owners.{owner_of_point}
+use Rattle.object_points.specs.Places.{is_among}
 use Rattle.object_points.specs.SaveOrder.{AreInOrder}
 use Rattle.object_points.specs.declared.saves.SavePoint.{SavePoint}
 
@@ -40,3 +46,30 @@ restores_of o = filter (is_restore_at o) (numbers_of_points o)
 pub record AreSaves (o : Coded) (saves : List SavePoint) : Type 0 where
   pub all : IsPermutation (saves_of o) saves
   pub ordered : AreInOrder saves
+
+-- ---- as they are found by the places of hints
+-- a hint is a SAVE or a RESTORE
+abbrev pub is_either : Option HintState → Bool
+is_either hint = is_save hint || is_restore hint
+
+-- the place of such a hint
+abbrev pub place_of_either : HintEntry → Option Place
+place_of_either h = if is_either (hint_state h) then Some h.place else None
+
+-- none is at any other place than these
+abbrev pub ArePlacesOf : List HintEntry → List Place → Type 0
+ArePlacesOf hints places = (place : Place) → is_among places place ≡ false → is_either (hint_at hints place) ≡ false
+
+-- the SAVEs and the RESTOREs among the points below a number
+pub record AreListed (o : Coded) (n : ℕ) (saves : List SavePoint) (restores : List ℕ) : Type 0 where
+  pub all_saves : saves ≡ map (save_at o) (filter (is_save_at o) (range_with_len 0 n))
+  pub all_restores : restores ≡ filter (is_restore_at o) (range_with_len 0 n)
+  pub few : length restores ≤ n
+
+-- of the points from a number on, no one that is before a place has either
+abbrev pub HaveNoneBefore : Coded → ℕ → Place → Type 0
+HaveNoneBefore o from place = (n : ℕ) → from ≤ n → n < length (points_of_object o) → is_before (point_at o n).place place ≡ true → is_either (hint_of o (point_at o n)) ≡ false
+
+-- nor has one at the place
+abbrev pub HaveNoneUpTo : Coded → ℕ → Place → Type 0
+HaveNoneUpTo o from place = (n : ℕ) → from ≤ n → n < length (points_of_object o) → is_before place (point_at o n).place ≡ false → is_either (hint_of o (point_at o n)) ≡ false

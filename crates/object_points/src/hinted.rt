@@ -1,13 +1,15 @@
 //! The points that have a SAVE or a RESTORE.
 
-ghost use Rattle.std.specs.Prelude.{◌≡◌, ◌<◌, ◌^◌, length, IfOk};
+ghost use Rattle.std.specs.Prelude.{◌≡◌, ◌+◌, ◌<◌, ◌≤◌, ◌^◌, filter_map, length, IfOk, OnOk};
 ghost use Rattle.flow_defs.specs.Code.{points_of_object};
 ghost use Rattle.flow_defs.specs.Hints.{is_restore as is_restore_hint, is_save as is_save_hint};
-ghost use Rattle.object_points.specs.Hinted.{restores_of, saves_of};
+ghost use Rattle.object_points.specs.Hinted.{is_either as is_either_hint, place_of_either, restores_of, saves_of, AreListed, ArePlacesOf, HaveNoneBefore, HaveNoneUpTo};
+ghost use Rattle.object_points.specs.Places.{AreByPlace};
 
 use crate::PointPlaces;
 use crate::saves::{SavePoint, save_point};
-use ot_base::NoMemory;
+use ot_base::{NoMemory, Place};
+use special_sections::{HintEntry, state_of_hint};
 use state_defs::HintState;
 use std::alloc::Global;
 
@@ -25,11 +27,45 @@ pub(crate) fn is_restore(hint: Option<HintState>) -> bool
     matches!(hint, Some(HintState::Restore))
 }
 
-/// How many points there are.
-fn count_points(places: &PointPlaces<'_, '_, '_>) -> u32
-    ensures { result ≡ length (points_of_object places.now) }
+/// Whether a hint is a SAVE or a RESTORE.
+fn is_either(hint: Option<HintState>) -> bool
+    ensures { result ≡ is_either_hint hint }
 {
-    places.linked().sites().point_count()
+    is_save(hint) || is_restore(hint)
+}
+
+/// The place of a hint that is a SAVE or a RESTORE.
+fn place_of(hint: &HintEntry) -> Option<Place>
+    ensures { result ≡ place_of_either hint.now }
+{
+    if is_either(state_of_hint(hint)) {
+        Some(hint.place)
+    } else {
+        None
+    }
+}
+
+/// The places of those hints that are a SAVE or a RESTORE.
+fn places_of(alloc: Global, hints: &[HintEntry]) -> Result<Vec<Place>, NoMemory>
+    ensures { IfOk result (λ places. places.items ≡ filter_map place_of_either hints.now) }
+{
+    let mut places = Vec::new(alloc);
+    for hint in hints {
+        if let Some(place) = place_of(hint) {
+            places.push(place)?;
+        }
+    }
+    Ok(places)
+}
+
+/// The same in their order.
+fn sorted_places(alloc: Global, hints: &[HintEntry]) -> Result<Vec<Place>, NoMemory>
+    ensures ordered { IfOk result (λ places. AreByPlace places.items) }
+    ensures all { IfOk result (λ places. ArePlacesOf hints.now places.items) }
+{
+    let mut places = places_of(alloc, hints)?;
+    places.sort_unstable();
+    Ok(places)
 }
 
 /// The SAVEs of an object, and the numbers of its RESTOREs, in the order of points.
@@ -37,6 +73,49 @@ fn count_points(places: &PointPlaces<'_, '_, '_>) -> u32
 pub(crate) struct Hinted {
     pub(crate) saves: Vec<SavePoint>,
     pub(crate) restores: Vec<u32>,
+}
+
+impl Hinted {
+    /// Lists one more point, if it has a SAVE or a RESTORE.
+    fn list(&mut self, places: &PointPlaces<'_, '_, '_>, n: u32) -> Result<(), NoMemory>
+        requires inside { n < length (points_of_object places.now) }
+        requires listed { AreListed places.now n self.old.saves.items self.old.restores.items }
+        ensures { OnOk result (AreListed places.now (n + 1) self.new.saves.items self.new.restores.items) }
+    {
+        let hint = places.hint(n);
+        if is_save(hint) {
+            self.saves.push(save_point(places, n))?;
+        }
+        if is_restore(hint) {
+            self.restores.push(n)?;
+        }
+        Ok(())
+    }
+
+    /// Goes on from a list of the points below a number to one of those up to a place, and tells the number behind them. From
+    /// the first number on, none before the place has a SAVE or a RESTORE.
+    fn list_to(
+        &mut self,
+        places: &PointPlaces<'_, '_, '_>,
+        from: u32,
+        place: Place,
+    ) -> Result<u32, NoMemory>
+        requires inside { from ≤ length (points_of_object places.now) }
+        requires listed { AreListed places.now from self.old.saves.items self.old.restores.items }
+        requires none { HaveNoneBefore places.now from place }
+        ensures inside { IfOk result (λ next. next ≤ length (points_of_object places.now)) }
+        ensures onward { IfOk result (λ next. from ≤ next) }
+        ensures listed { IfOk result (λ next. AreListed places.now next self.new.saves.items self.new.restores.items) }
+        ensures none { IfOk result (λ next. HaveNoneUpTo places.now next place) }
+    {
+        let (first, end) = places.linked().sites().numbers_at(place);
+        let from = first.max(from);
+        let next = end.max(from);
+        for n in from..next {
+            self.list(places, n)?;
+        }
+        Ok(next)
+    }
 }
 
 /// The SAVEs and the RESTOREs of an object.
@@ -48,19 +127,14 @@ pub(crate) fn list_hinted(
     ensures restores { IfOk result (λ hinted. hinted.restores.items ≡ restores_of places.now) }
     ensures few { IfOk result (λ hinted. length hinted.restores.items < 2 ^ 32) }
 {
-    let mut saves = Vec::new(alloc);
-    let mut restores = Vec::new(alloc);
-    for n in 0..count_points(places) {
-        if !places.may_have_hint(n) {
-            continue;
-        }
-        let hint = places.hint(n);
-        if is_save(hint) {
-            saves.push(save_point(places, n))?;
-        }
-        if is_restore(hint) {
-            restores.push(n)?;
-        }
+    let hinted_places = sorted_places(alloc, places.linked().special().hints())?;
+    let mut hinted = Hinted {
+        saves: Vec::new(alloc),
+        restores: Vec::new(alloc),
+    };
+    let mut next = 0;
+    for place in &hinted_places {
+        next = hinted.list_to(places, next, *place)?;
     }
-    Ok(Hinted { saves, restores })
+    Ok(hinted)
 }

@@ -1,55 +1,62 @@
-use Rattle.std.proofs.Common.{◌≡◌, ℕ, [], ◌∷◌, ◌++◌, length, Global, Vec, None, false, arith, sym, ap, ◌∙◌}
-use Rattle.flow_defs.specs.Arrival.{hint_of}
-use Rattle.flow_defs.specs.Code.{point_at}
+use Rattle.std.proofs.Common.{◌≡◌, ℕ, ◌<◌, List, length, inl, inr, sym, ap, ◌∙◌, subst, arith}
+use Rattle.std.specs.Prelude.{slice_index_or}
+use Rattle.std.proofs.lemmas.Bool.{cases_lt}
+use Rattle.std.proofs.lemmas.List.{get_or_default}
+use Rattle.ot_base.specs.declared.place.Place.{Place}
+use Rattle.special_sections.specs.declared.entries.HintEntry.{HintEntry}
+use Rattle.special_sections.specs.Special.{special_of}
 use Rattle.flow_defs.specs.Coded.{Coded}
-use Rattle.flow_defs.specs.Hints.{is_restore, is_save}
-use Rattle.object_points.specs.Hinted.{is_restore_at, is_save_at}
-use Rattle.object_points.specs.declared.saves.SavePoint.{SavePoint}
-use Rattle.object_points.proofs.Listing.{restore_more, restore_same, save_more, save_same}
+use Rattle.flow_defs.specs.Code.{points_of_object}
+use Rattle.object_points.specs.Hinted.{AreListed, ArePlacesOf, HaveNoneUpTo}
+use Rattle.object_points.specs.Places.{AreByPlace}
+use Rattle.object_points.proofs.Onward.{listed_on, none_before, none_behind}
 use Rattle.object_points.proofs.hinted.list_hinted.Goals as goal
-use Rattle.object_points.proofs.hinted.list_hinted.Goals.{then-is_save+in_ok-push, else-is_save, then-is_restore+in_ok-push-2, else-is_restore}
 
-pub loop-n-preserved : goal.loop-n-preserved
-loop-n-preserved c =
+pub list_to-requires-clause-none : goal.list_to-requires-clause-none
+list_to-requires-clause-none c =
     let o : Coded = c.args.places.now in
-    let n : ℕ = c.loop-n.n in
-    let saves : c.is_save.result ≡ is_save_at o n = c.is_save.ensures ∙ ap is_save c.hint-hint.ensures in
-    let restores : c.is_restore.result ≡ is_restore_at o n = c.is_restore.ensures ∙ ap is_restore c.hint-hint.ensures in
+    let items : List Place = c.deref-place-items.result.now in
+    let by : AreByPlace items = subst AreByPlace (sym c.deref-place-items.ensures.value) c.in_ok-hinted_places.ensures.ordered in
+    let hints : c.hints.result.now ≡ (special_of o.elf).hints = c.hints.ensures ∙ ap (λ s. s.hints) (c.special.ensures ∙ ap (λ (e : Coded). special_of e.elf) c.linked.ensures) in
+    let all : ArePlacesOf (special_of o.elf).hints items = subst (λ (hs : List HintEntry). ArePlacesOf hs items) hints (subst (ArePlacesOf c.hints.result.now) (sym c.deref-place-items.ensures.value) c.in_ok-hinted_places.ensures.all) in
+    none_before o items c.loop-place.place-index c.loop-place.next (record { sec = 0; off = 0 }) by all c.loop-place.invariant.none
+
+pub loop-place-preserved : goal.loop-place-preserved
+loop-place-preserved c =
+    let o : Coded = c.args.places.now in
+    let items : List Place = c.deref-place-items.result.now in
+    let next : ℕ = c.in_ok-next.next in
     record {
-      all_saves = elim c.if-is_save.branch [
-        | then-is_save+in_ok-push w ↦
-            ap (λ (v : Vec SavePoint Global). v.items) w.saves-is
-            ∙ w.in_ok-push.ensures.items
-            ∙ ap (λ s. c.loop-n.saves.items ++ s ∷ []) w.save_point.ensures
-            ∙ save_more o n c.loop-n.saves.items c.loop-n.invariant.all_saves (sym saves ∙ w.if-is_save.true)
-        | else-is_save w ↦
-            ap (λ (v : Vec SavePoint Global). v.items) w.saves-is
-            ∙ save_same o n c.loop-n.saves.items c.loop-n.invariant.all_saves (sym saves ∙ w.if-is_save.false)
-      ];
-      all_restores = elim c.if-is_restore.branch [
-        | then-is_restore+in_ok-push-2 w ↦
-            ap (λ (v : Vec ℕ Global). v.items) w.restores-is
-            ∙ w.in_ok-push-2.ensures.items
-            ∙ restore_more o n c.loop-n.restores.items c.loop-n.invariant.all_restores (sym restores ∙ w.if-is_restore.true)
-        | else-is_restore w ↦
-            ap (λ (v : Vec ℕ Global). v.items) w.restores-is
-            ∙ restore_same o n c.loop-n.restores.items c.loop-n.invariant.all_restores (sym restores ∙ w.if-is_restore.false)
-      ];
-      few = elim c.if-is_restore.branch [
-        | then-is_restore+in_ok-push-2 w ↦ omega (arith, ap (λ (v : Vec ℕ Global). length v.items) w.restores-is, w.in_ok-push-2.ensures.len, c.loop-n.invariant.few)
-        | else-is_restore w ↦ omega (arith, ap (λ (v : Vec ℕ Global). length v.items) w.restores-is, c.loop-n.invariant.few)
+      inside = c.in_ok-next.ensures.inside;
+      few = omega arith;
+      listed = c.in_ok-next.ensures.listed;
+      none = λ k d less. elim (cases_lt k c.loop-place.place-index) [
+        | inl lower ↦ λ n on inside. c.loop-place.invariant.none k d lower n (omega (arith, on, c.in_ok-next.ensures.onward)) inside
+        | inr last ↦
+            let same : c.loop-place.place-index ≡ k = omega arith in
+            let place : Place = slice_index_or items c.loop-place.place-index (record { sec = 0; off = 0 }) in
+            let here : place ≡ slice_index_or items k d = get_or_default items c.loop-place.place-index (record { sec = 0; off = 0 }) d c.loop-place-test.true ∙ ap (λ i. slice_index_or items i d) same in
+            subst (HaveNoneUpTo o next) here c.in_ok-next.ensures.none
       ];
     }
 
--- a point that has no hint is neither
-pub loop-n-preserved-then-not-may_have_hint : goal.loop-n-preserved-then-not-may_have_hint
-loop-n-preserved-then-not-may_have_hint c =
-    let o : Coded = c.args.places.now in
-    let n : ℕ = c.loop-n.n in
-    let unmarked : c.may_have_hint.result ≡ false = c.if-not-may_have_hint.true in
-    let none : hint_of o (point_at o n) ≡ None = c.may_have_hint.ensures unmarked in
-    record {
-      all_saves = save_same o n c.loop-n.saves.items c.loop-n.invariant.all_saves (ap is_save none);
-      all_restores = restore_same o n c.loop-n.restores.items c.loop-n.invariant.all_restores (ap is_restore none);
-      few = omega (arith, c.loop-n.invariant.few);
-    }
+module _ (c : goal.After-drop-hinted_places-2) where
+  all_listed : AreListed c.args.places.now (length (points_of_object c.args.places.now)) c.loop-place.hinted.saves.items c.loop-place.hinted.restores.items
+  all_listed =
+      let o : Coded = c.args.places.now in
+      let items : List Place = c.deref-place-items.result.now in
+      let hints : c.hints.result.now ≡ (special_of o.elf).hints = c.hints.ensures ∙ ap (λ s. s.hints) (c.special.ensures ∙ ap (λ (e : Coded). special_of e.elf) c.linked.ensures) in
+      let all : ArePlacesOf (special_of o.elf).hints items = subst (λ (hs : List HintEntry). ArePlacesOf hs items) hints (subst (ArePlacesOf c.hints.result.now) (sym c.deref-place-items.ensures.value) c.in_ok-hinted_places.ensures.all) in
+      let none : (k : ℕ) (d : Place) → k < length items → HaveNoneUpTo o c.loop-place.next (slice_index_or items k d) = λ k d inside. c.loop-place.invariant.none k d (omega (arith, c.loop-place-test.false, inside)) in
+      listed_on o c.loop-place.hinted.saves.items c.loop-place.hinted.restores.items c.loop-place.next (length (points_of_object o)) c.loop-place.invariant.inside
+      (λ n on inside. none_behind o items c.loop-place.next n all none on inside)
+      c.loop-place.invariant.listed
+
+pub returns-clause-saves : goal.returns-clause-saves
+returns-clause-saves c = (all_listed c).all_saves
+
+pub returns-clause-restores : goal.returns-clause-restores
+returns-clause-restores c = (all_listed c).all_restores
+
+pub returns-clause-few : goal.returns-clause-few
+returns-clause-few c = omega (arith, c.loop-place.invariant.few, c.loop-place.invariant.listed.few)
