@@ -1,13 +1,15 @@
 //! The kinds of points.
 
-ghost use Rattle.std.specs.Prelude.{◌≡◌, ◌<◌, List, IfOk, IfSome, IsTrue, Some, length, slice_get};
+ghost use Rattle.std.specs.Prelude.{◌≡◌, ◌<◌, ◌↔◌, List, IfOk, IfSome, IsTrue, Some, length, slice_get};
 ghost use Rattle.operation_defs.specs.declared.insn.Insn.{Insn as InsnValue};
-ghost use Rattle.control_flow.specs.Kinds.{AreUsual, IsUsual, usual_kind as usual_kind_of};
+ghost use Rattle.alternatives.specs.declared.point.Point.{Point};
+ghost use Rattle.flow_defs.specs.Arrival.{decoded_insn, insn_of_object};
+ghost use Rattle.flow_defs.specs.Coded.{Coded};
+ghost use Rattle.control_flow.specs.Kinds.{AreUsual, StaysDecoded, usual_kind as usual_kind_of};
 ghost use Rattle.control_flow.specs.Numbers.{IsNumbered};
 
-use operation_defs::Insn;
+use operation_defs::{Insn, Op};
 use ot_base::NoMemory;
-use point_edges::stays_decoded;
 use program_graph::PointKind;
 use std::alloc::Global;
 use x86_text::hash_of;
@@ -86,14 +88,26 @@ impl KindTable {
         Ok(number)
     }
 
-    /// Whether the kind that most points have whose decoded instruction has this number among those that differ stands there.
+    /// Whether the program makes no other instruction of the one with this number among those that differ.
     #[inline(always)]
-    pub(crate) fn has_usual(&self, insn: u32) -> bool
+    pub(crate) fn stays(&self, insn: u32) -> bool
         requires { insn < length self.now.stay.items }
-        ensures { IsTrue result → (different : List InsnValue) (decoded : InsnValue) → AreUsual different self.now.kinds.items self.now.stay.items (length different) → slice_get different insn ≡ Some decoded → IsUsual self.now.kinds.items decoded insn }
+        ensures { (different : List InsnValue) (decoded : InsnValue) → AreUsual different self.now.kinds.items self.now.stay.items (length different) → slice_get different insn ≡ Some decoded → IsTrue result ↔ StaysDecoded decoded.op }
     {
         self.stay[insn as usize]
     }
+}
+
+/// Whether an operation stays as it is decoded: the program makes no other one of it. Its instruction is then the same in the
+/// program, wherever it stands.
+fn stays_decoded(op: Op) -> bool
+    ensures is { IsTrue result ↔ StaysDecoded op }
+    ensures same { IsTrue result → (o : Coded) (p : Point) → (decoded_insn o p).op ≡ op → insn_of_object o p ≡ decoded_insn o p }
+{
+    !matches!(
+        op,
+        Op::Call { .. } | Op::LeaBpSp { .. } | Op::Iret | Op::Switch
+    )
 }
 
 /// The kind that most points with an instruction have.
