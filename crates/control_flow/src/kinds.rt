@@ -1,8 +1,8 @@
 //! The kinds of points.
 
-ghost use Rattle.std.specs.Prelude.{◌≡◌, ◌<◌, List, IfOk, IfSome, IsTrue, Some, length, slice_get};
+ghost use Rattle.std.specs.Prelude.{◌≡◌, ◌<◌, ◌↔◌, List, IfOk, IfSome, IsTrue, Some, length, slice_get};
 ghost use Rattle.operation_defs.specs.declared.insn.Insn.{Insn as InsnValue};
-ghost use Rattle.control_flow.specs.Kinds.{AreUsual, IsUsual, usual_kind as usual_kind_of};
+ghost use Rattle.control_flow.specs.Kinds.{AreUsual, StaysDecoded, usual_kind as usual_kind_of};
 ghost use Rattle.control_flow.specs.Numbers.{IsNumbered};
 
 use operation_defs::Insn;
@@ -86,11 +86,11 @@ impl KindTable {
         Ok(number)
     }
 
-    /// Whether the kind that most points have whose decoded instruction has this number among those that differ stands there.
+    /// Whether the program makes no other instruction of the one with this number among those that differ.
     #[inline(always)]
-    pub(crate) fn has_usual(&self, insn: u32) -> bool
+    pub(crate) fn stays(&self, insn: u32) -> bool
         requires { insn < length self.now.stay.items }
-        ensures { IsTrue result → (different : List InsnValue) (decoded : InsnValue) → AreUsual different self.now.kinds.items self.now.stay.items (length different) → slice_get different insn ≡ Some decoded → IsUsual self.now.kinds.items decoded insn }
+        ensures { (different : List InsnValue) (decoded : InsnValue) → AreUsual different self.now.kinds.items self.now.stay.items (length different) → slice_get different insn ≡ Some decoded → IsTrue result ↔ StaysDecoded decoded.op }
     {
         self.stay[insn as usize]
     }

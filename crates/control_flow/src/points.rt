@@ -1,6 +1,6 @@
 //! The points of a graph.
 
-ghost use Rattle.std.specs.Prelude.{◌≡◌, ◌<◌, ◌^◌, true, false, IfOk, IsTrue, length};
+ghost use Rattle.std.specs.Prelude.{◌≡◌, ◌<◌, ◌^◌, ◌↔◌, true, false, IfOk, IsTrue, length};
 ghost use Rattle.ot_base.specs.NameLists.{NameLists};
 ghost use Rattle.machine_defs.specs.Kept.{is_at_entry};
 ghost use Rattle.flow_defs.specs.Program.{program_of};
@@ -61,7 +61,7 @@ fn kind_of(
 /// Whether what is told of a point is what is told of most.
 #[inline(always)]
 fn is_told_usual(told: Told) -> bool
-    ensures { IsTrue result → (told.may_return ≡ true) × (told.is_entered ≡ false) × (told.transfer ≡ 0) }
+    ensures { IsTrue result ↔ ((told.may_return ≡ true) × (told.is_entered ≡ false) × (told.transfer ≡ 0)) }
 {
     told.transfer == 0 && told.may_return && !told.is_entered
 }
@@ -123,7 +123,7 @@ fn number_kind(
 {
     if is_told_usual(told) && !points.arrivals().is_dead_end(n) && is_usual(points, n) {
         let number = insns.numbers[n as usize];
-        if shared.kinds.has_usual(number) {
+        if shared.kinds.stays(number) {
             return Ok(number);
         }
     }

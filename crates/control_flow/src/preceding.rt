@@ -1,6 +1,6 @@
 //! The point right before a point.
 
-ghost use Rattle.std.specs.Prelude.{◌≡◌, ◌+◌, ◌<◌, ◌≤◌, ℕ, IfSome, IsTrue, length, slice_index_or};
+ghost use Rattle.std.specs.Prelude.{◌≡◌, ◌+◌, ◌<◌, ◌≤◌, ◌↔◌, ℕ, IfSome, IsTrue, length, slice_index_or};
 ghost use Rattle.alternatives.specs.Texts.{AscendBySection};
 ghost use Rattle.alternatives.specs.declared.texts.SectionText.{SectionText};
 ghost use Rattle.flow_defs.specs.Code.{point_at, points_of_object, texts_of};
@@ -31,7 +31,7 @@ fn count_below(texts: &[SectionText<'_>], sec: u32) -> usize
 
 /// Whether a plain point whose instruction has so many bytes ends at a place.
 pub(crate) fn ends_at(point: Point, len: u8, place: Place) -> bool
-    ensures { IsTrue result → (point.variant ≡ 0) × (point.place.sec ≡ place.sec) × (point.place.off + len ≡ place.off) }
+    ensures { IsTrue result ↔ ((point.variant ≡ 0) × (point.place.sec ≡ place.sec) × (point.place.off + len ≡ place.off)) }
 {
     if point.variant != 0 || point.place.sec != place.sec || point.place.off > place.off {
         return false;

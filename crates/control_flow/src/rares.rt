@@ -1,6 +1,6 @@
 //! What few points have otherwise than most.
 
-ghost use Rattle.std.specs.Prelude.{◌≡◌, ◌+◌, ◌<◌, ◌^◌, ◌++◌, ◌∷◌, [], ℕ, List, None, IfOk, IsTrue, length};
+ghost use Rattle.std.specs.Prelude.{◌≡◌, ◌+◌, ◌<◌, ◌^◌, ◌↔◌, ◌++◌, ◌∷◌, [], ℕ, List, None, IfOk, IsTrue, length};
 ghost use Rattle.alternatives.specs.Points.{address_of_point};
 ghost use Rattle.flow_defs.specs.Code.{alternatives_of, point_at};
 ghost use Rattle.flow_defs.specs.Program.{previous_of as previous_of_point};
@@ -111,7 +111,7 @@ fn is_behind_plain(places: &PointPlaces<'_, '_, '_>, n: u32) -> bool
 #[inline(always)]
 fn is_unhinted(places: &PointPlaces<'_, '_, '_>, n: u32) -> bool
     requires point { n < count_of places.now }
-    ensures { IsTrue result → IsUnhinted places.now n }
+    ensures { IsTrue result ↔ IsUnhinted places.now n }
 {
     !places.may_have_hint(n) || places.hint(n).is_none()
 }

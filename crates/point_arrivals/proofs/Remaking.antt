@@ -1,5 +1,6 @@
 -- What a program makes of decoded operations.
-use Rattle.std.proofs.Common.{◌≡◌, Bool, true, false, ◌&&◌, if◌then◌else◌, refl, sym, ap, ◌∙◌}
+use Rattle.std.specs.Prelude.{◌↔◌, IsTrue}
+use Rattle.std.proofs.Common.{◌≡◌, Bool, true, false, not, ◌&&◌, if◌then◌else◌, refl, sym, ap, ◌∙◌}
 use Rattle.std.proofs.lemmas.Bool.{false≢true}
 use Rattle.operation_defs.specs.declared.insn.Insn.{Insn}
 use Rattle.operation_defs.specs.declared.op.Op.{Op}
@@ -20,6 +21,23 @@ made_same a (LeaBpSp by) is = absurd (false≢true (sym is))
 made_same a Iret is = absurd (false≢true (sym is))
 made_same a Switch is = absurd (false≢true (sym is))
 made_same a op is = refl
+
+-- an object may say all of this around an instruction
+abbrev all_is_so : Around
+all_is_so = record { intra_call = true; within = true; hinted = true; makes_room = true }
+
+-- of the others something else is made there
+made_other : (op : Op) → may_be_remade op ≡ true → ((a : Around) → made a op ≡ op) → ⊥
+made_other (Call rel) is same = let e : Hop ≡ Call rel = same all_is_so in cc
+made_other (LeaBpSp by) is same = let e : LeaBpRoom by ≡ LeaBpSp by = same all_is_so in cc
+made_other Iret is same = let e : IretNext ≡ Iret = same all_is_so in cc
+made_other Switch is same = let e : SpOther ≡ Switch = same all_is_so in cc
+made_other op is same = false≢true is
+
+-- one stays exactly if it is none of them
+pub stays_exactly : (op : Op) (remade : Bool) → remade ≡ may_be_remade op → IsTrue (not remade) ↔ ((a : Around) → made a op ≡ op)
+stays_exactly op true is = (λ h. absurd (false≢true h), λ same. absurd (made_other op (sym is) same))
+stays_exactly op false is = (λ h a. made_same a op (sym is), λ same. refl)
 
 insn_by : (o : Coded) (p : Point) (insn : Insn) (op : Op) → insn ≡ decoded_insn o p → op ≡ made (around o p) insn.op → (let it : Insn = record { len = insn.len; op = op } in it) ≡ insn_of_object o p
 unfolding insn_of_object

@@ -1,10 +1,10 @@
 //! The instruction of a point: what the program makes of the one that is decoded.
 
-ghost use Rattle.std.specs.Prelude.{◌≡◌, ◌<◌, ◌&&◌, Some, if◌then◌else◌, length, not, All, IfOk, IsTrue};
+ghost use Rattle.std.specs.Prelude.{◌≡◌, ◌<◌, ◌&&◌, ◌↔◌, Some, if◌then◌else◌, length, All, IfOk, IsTrue};
 ghost use Rattle.alternatives.specs.declared.point.Point.{Point};
 ghost use Rattle.flow_defs.specs.Tables.{same_owner};
 ghost use Rattle.flow_defs.specs.Coded.{Coded};
-ghost use Rattle.operation_defs.specs.Made.{made as made_of};
+ghost use Rattle.operation_defs.specs.Made.{made as made_of, Around};
 ghost use Rattle.flow_defs.specs.Arrival.{around, decoded_insn, goes_on_behind as goes_on_in_owner, insn_of_object, tells_frame as tells_a_frame};
 ghost use Rattle.flow_defs.specs.Code.{point_at, points_of_object};
 ghost use Rattle.point_arrivals.specs.Remade.{are_hinted as are_all_hinted, may_be_remade as is_remade};
@@ -27,9 +27,10 @@ fn may_be_remade(op: Op) -> bool
     )
 }
 
-/// Whether an operation stays as it is decoded, wherever it stands: the program makes no other one of it.
+/// Whether an operation stays as it is decoded: a program makes no other one of it, whatever its object says around it. Then its
+/// instruction is the same in the program, wherever it stands.
 pub fn stays_decoded(op: Op) -> bool
-    ensures exact { result ≡ not (is_remade op) }
+    ensures exact { IsTrue result ↔ ((a : Around) → made_of a op ≡ op) }
     ensures stays { IsTrue result → (o : Coded) (p : Point) → (decoded_insn o p).op ≡ op → insn_of_object o p ≡ decoded_insn o p }
 {
     !may_be_remade(op)

@@ -5,15 +5,15 @@ use Rattle.operation_defs.specs.declared.insn.Insn.{Insn}
 use Rattle.flow_defs.specs.Coded.{Coded}
 use Rattle.flow_defs.specs.Arrival.{decoded_insn, is_dead_end}
 use Rattle.flow_defs.specs.Code.{point_at}
-use Rattle.control_flow.specs.Kinds.{IsUsual, usual_kind}
+use Rattle.control_flow.specs.Kinds.{StaysDecoded, usual_kind}
 use Rattle.control_flow.specs.declared.rares.TheConstants.{USUAL}
 use Rattle.control_flow.proofs.Numbering.{stays}
 use Rattle.control_flow.proofs.RareSteps.{more_rares}
 use Rattle.control_flow.proofs.UsualKinds.{usual_is}
 use Rattle.control_flow.proofs.points.number_kind.Goals as goal
 
-pub has_usual-requires : goal.has_usual-requires
-has_usual-requires c =
+pub stays-requires : goal.stays-requires
+stays-requires c =
     let o : Coded = c.args.points.now in
     let n : ℕ = c.args.n in
     let insns : List Insn = c.args.insns.kinds.now in
@@ -24,8 +24,8 @@ has_usual-requires c =
     let inside : k < length insns = slice_get_within insns k decoded own in
     omega (arith, inside, c.requires.usual.long)
 
-pub returns-then-has_usual-clause-kind : goal.returns-then-has_usual-clause-kind
-returns-then-has_usual-clause-kind c =
+pub returns-then-stays-clause-kind : goal.returns-then-stays-clause-kind
+returns-then-stays-clause-kind c =
     let o : Coded = c.args.points.now in
     let n : ℕ = c.args.n in
     let insns : List Insn = c.args.insns.kinds.now in
@@ -37,12 +37,13 @@ returns-then-has_usual-clause-kind c =
     let decoded : Insn = decoded_insn o (point_at o n) in
     let own : slice_get insns k ≡ Some decoded = c.requires.insns.each n k (slice_get-get_or numbers n 0 (omega (arith, c.requires.point, c.requires.insns.long))) in
     let passed : is_dead_end o (point_at o n) ≡ false = ap (λ (e : Coded). is_dead_end e (point_at e n)) (sym c.arrivals.ensures) ∙ sym c.is_dead_end.ensures ∙ c.if-not-is_dead_end.true in
-    let usual : IsUsual kinds decoded k = c.has_usual.ensures c.if-has_usual.true insns decoded c.requires.usual own in
+    let stay : StaysDecoded decoded.op = (c.stays.ensures insns decoded c.requires.usual own).0 c.if-stays.true in
+    let here : slice_get kinds k ≡ Some (usual_kind decoded) = c.requires.usual.here k decoded (slice_get_within insns k decoded own) own in
     record {
       rare = 0;
       kind = usual_kind decoded;
-      is_kind = usual_is o n c.args.told.may_return c.args.told.is_entered c.args.told.transfer decoded kinds k usual refl passed (c.is_told_usual.ensures c.if-is_told_usual.true) c.requires.entered;
-      numbered = stays kinds kinds (usual_kind decoded) k refl usual.here;
+      is_kind = usual_is o n c.args.told.may_return c.args.told.is_entered c.args.told.transfer stay passed (c.is_told_usual.ensures.0 c.if-is_told_usual.true) c.requires.entered;
+      numbered = stays kinds kinds (usual_kind decoded) k refl here;
       rares = λ all are. more_rares o c.args.hints.now.restores rares rares hinted hinted all n None None 0 USUAL are
           (c.is_usual.ensures.hint c.if-is_usual.true) (refl, refl) (c.is_usual.ensures.rare c.if-is_usual.true) (stays rares rares USUAL 0 refl are.usual);
     }

@@ -10,6 +10,6 @@ returns-then-ends_at c =
     let o : Coded = c.args.places.now in
     let m : ℕ = c.args.n - 1 in
     let inside : m < length (points_of_object o) = omega (arith, c.requires, c.if-n-eq0.false) in
-    let h = c.ends_at.ensures c.if-ends_at.true in
+    let h = c.ends_at.ensures.0 c.if-ends_at.true in
     ends_by o (point_at o c.args.n) (point_at o m) c.point-point.result c.point.result c.decoded_insn-insn.result
     (Contains-get_or (points_of_object o) m no_point inside) c.point-point.ensures c.point.ensures c.decoded_insn-insn.ensures h.0 h.1 h.2

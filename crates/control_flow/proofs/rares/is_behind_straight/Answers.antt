@@ -1,4 +1,4 @@
-use Rattle.std.proofs.Common.{◌≡◌, ℕ, ◌+◌, ◌-◌, ◌<◌, None, sym, ◌∙◌, subst, arith}
+use Rattle.std.proofs.Common.{◌≡◌, ℕ, ◌+◌, ◌-◌, ◌<◌, None, sym, subst, arith}
 use Rattle.flow_defs.specs.Coded.{Coded}
 use Rattle.point_edges.specs.Straight.{IsStraight}
 use Rattle.control_flow.specs.Listed.{count_of}
