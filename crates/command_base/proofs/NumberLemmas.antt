@@ -1,6 +1,6 @@
 -- The numbers of the places of warnings.
-use Rattle.std.proofs.Common.{◌≡◌, ℕ, ◌+◌, ◌-◌, ◌<◌, ◌≤◌, false, List, [], ◌∷◌, ◌++◌, length, get_or, inl, inr, arith, refl, sym, ap, ◌∙◌, subst, length-append}
-use Rattle.std.specs.Prelude.{AllPairs, Option, Result, Ok, Err, IfOk}
+use Rattle.std.proofs.Common.{◌≡◌, ℕ, ◌+◌, ◌-◌, ◌<◌, ◌≤◌, false, List, [], ◌∷◌, ◌++◌, length, get_or, inl, inr, arith, sym, ap, ◌∙◌, subst, length-append}
+use Rattle.std.specs.Prelude.{AllPairs, Option}
 use Rattle.std.proofs.lemmas.Bool.{cases_lt}
 use Rattle.std.proofs.lemmas.List.{get_or_append_left, get_or_default}
 use Rattle.std.proofs.Math.Seq.{get_or-append_seam}
@@ -11,7 +11,7 @@ use Rattle.state_defs.specs.declared.state.State.{State}
 use Rattle.machine_defs.specs.Program.{Program}
 use Rattle.stack_rules.specs.Before.{ComesBefore}
 use Rattle.command_base.specs.declared.backtrace_spots.Spot.{Spot}
-use Rattle.command_base.specs.BacktraceSpots.{AreFirst, AreSpots, HaveNumbers, IsSpot}
+use Rattle.command_base.specs.BacktraceSpots.{AreFirst, ArePicked, AreSpots, HaveNumbers, IsSpot}
 use Rattle.command_base.proofs.PlaceOrder.{in_order}
 
 -- the next warning isn't before the last place
@@ -67,17 +67,9 @@ picked_more spots numbers picked more n d0 within inside len were is i d here =
 
 -- by warning what was picked is what was found at its place
 pub are_first : (p : Program) (states : ℕ → Option State) (warnings : List Warning) (old spots picked : List Spot) (numbers : List ℕ) → HaveNumbers warnings old numbers → length spots ≡ length old → ((k : ℕ) (d : Spot) → (get_or spots k d).place ≡ (get_or old k d).place)
-    → AreSpots p states p.count spots → length picked ≡ length numbers → ((i : ℕ) (d : Spot) → i < length picked → get_or picked i d ≡ get_or spots (get_or numbers i 0) d)
-    → AreFirst p states warnings picked
-are_first p states warnings old spots picked numbers have len places are size each i w d inside =
-    let at = have i w d (omega (arith, inside, size)) in (
-      ap (λ (x : Spot). x.place) (each i d inside) ∙ places (get_or numbers i 0) d ∙ at.1,
-      subst (λ (x : Spot). IsSpot p states p.count x) (sym (each i d inside)) (are (get_or numbers i 0) d (omega (arith, at.0, len))),
+    → AreSpots p states p.count spots → ArePicked spots numbers picked → AreFirst p states warnings picked
+are_first p states warnings old spots picked numbers have len places are chosen i w d inside =
+    let at = have i w d (omega (arith, inside, chosen.len)) in (
+      ap (λ (x : Spot). x.place) (chosen.each i d inside) ∙ places (get_or numbers i 0) d ∙ at.1,
+      subst (λ (x : Spot). IsSpot p states p.count x) (sym (chosen.each i d inside)) (are (get_or numbers i 0) d (omega (arith, at.0, len))),
     )
-
-pub numbers_within : (warnings : List Warning) (spots : List Spot) (numbers : List ℕ) (w : Warning) (d : Spot) → HaveNumbers warnings spots numbers → (i : ℕ) → i < length numbers → get_or numbers i 0 < length spots
-numbers_within warnings spots numbers w d have i inside = (have i w d inside).0
-
-pub if_ok_both : {T E : Type 0} (r : Result T E) (P Q R : T → Type 0) → ((x : T) → P x → Q x → R x) → IfOk r P → IfOk r Q → IfOk r R
-if_ok_both (Ok x) P Q R f h k = f x h k
-if_ok_both (Err e) P Q R f h k = tt

@@ -25,6 +25,11 @@ abbrev pub HaveNumbers : List Warning → List Spot → List ℕ → Type 0
 HaveNumbers warnings spots numbers = (i : ℕ) (w : Warning) (d : Spot) → i < length numbers
     → (slice_index_or numbers i 0 < length spots) × ((slice_index_or spots (slice_index_or numbers i 0) d).place ≡ (slice_index_or warnings i w).place)
 
+-- the spots with these numbers, in their order
+pub record ArePicked (spots : List Spot) (numbers : List ℕ) (picked : List Spot) : Type 0 where
+  pub len : length picked ≡ length numbers
+  pub each : (i : ℕ) (d : Spot) → i < length picked → slice_index_or picked i d ≡ slice_index_or spots (slice_index_or numbers i 0) d
+
 -- by warning, the first points of the program at its place
 abbrev pub AreFirst : Program → (ℕ → Option State) → List Warning → List Spot → Type 0
 AreFirst p states warnings firsts = (i : ℕ) (w : Warning) (d : Spot) → i < length firsts

@@ -8,7 +8,7 @@ ghost use Rattle.program_graph.specs.Tells.{Tells};
 ghost use Rattle.kept_states.specs.LevelStates.{at};
 ghost use Rattle.stack_rules.specs.Before.{ComesBefore};
 ghost use Rattle.command_base.specs.declared.backtrace_spots.Spot.{Spot as SpotValue};
-ghost use Rattle.command_base.specs.BacktraceSpots.{AreApart, AreFirst, AreSpots, HaveNumbers, IsSpot};
+ghost use Rattle.command_base.specs.BacktraceSpots.{AreApart, AreFirst, ArePicked, AreSpots, HaveNumbers, IsSpot};
 
 use kept_states::Kept;
 use ot_base::{NoMemory, Place, Warning, is_before};
@@ -149,8 +149,7 @@ fn look_at_all(graph: &Graph, kept: &Kept, spots: &mut [Spot])
 /// The spots with these numbers.
 fn pick(alloc: Global, spots: &[Spot], numbers: &[usize]) -> Result<Vec<Spot>, NoMemory>
     requires { (i : ℕ) → i < length numbers.now → slice_index_or numbers.now i 0 < length spots.now }
-    ensures len { IfOk result (λ picked. length picked.items ≡ length numbers.now) }
-    ensures each { IfOk result (λ picked. (i : ℕ) (d : SpotValue) → i < length picked.items → slice_index_or picked.items i d ≡ slice_index_or spots.now (slice_index_or numbers.now i 0) d) }
+    ensures { IfOk result (λ picked. ArePicked spots.now numbers.now picked.items) }
 {
     let mut picked = Vec::with_capacity(alloc, numbers.len())?;
     for number in numbers {
