@@ -1,5 +1,5 @@
 -- Exits, dead ends, entries and edges, of one point more.
-use Rattle.std.proofs.Common.{◌≡◌, ℕ, ◌+◌, ◌-◌, ◌^◌, ◌<◌, ◌≤◌, List, [], ◌∷◌, ◌++◌, All, Contains, length, get_or, inl, inr, refl, sym, ap, ◌∙◌, subst, arith, length-append}
+use Rattle.std.proofs.Common.{◌≡◌, ℕ, ◌+◌, ◌-◌, ◌^◌, ◌<◌, ◌≤◌, Bool, List, [], false, ◌∷◌, ◌++◌, All, Contains, length, get_or, inl, inr, refl, sym, ap, ◌∙◌, subst, arith, length-append}
 use Rattle.std.specs.Prelude.{slice_index, slice_range}
 use Rattle.std.proofs.lemmas.Bool.{cases_lt}
 use Rattle.std.proofs.lemmas.List.{get_or_append_left, get_or_push, length_push}
@@ -11,11 +11,13 @@ use Rattle.flow_defs.specs.Coded.{Coded}
 use Rattle.machine_defs.specs.declared.flow.Edge.{Edge}
 use Rattle.machine_defs.specs.declared.flow.EdgeKind.TheVariants.{Table}
 use Rattle.machine_defs.specs.Program.{edge}
+use Rattle.flow_defs.specs.Arrival.{is_dead_end}
 use Rattle.flow_defs.specs.Code.{point_at}
 use Rattle.flow_defs.specs.Edges.{goes}
 use Rattle.flow_defs.specs.Program.{program_of}
 use Rattle.flow_defs.specs.Roles.{role_of}
 use Rattle.return_search.specs.declared.searched_flow.Exit.{Exit}
+use Rattle.return_search.specs.Flagged.{AreFlagged}
 use Rattle.return_search.specs.Told.{exit_of}
 use Rattle.return_search.proofs.Ranges.{range_new, range_push}
 use Rattle.control_flow.specs.Listed.{AreEdges, AreExits, ExitCallsPoint, IsAlikeIn, count_of}
@@ -30,6 +32,19 @@ exits_more o lists exits n exit are here known = record {
   long = omega (arith, length_push exits exit, are.long);
   each = each_more (λ q. exit_of (program_of o lists) (role_of o (point_at o q))) exits exit n are.long are.each here;
   known = All-push (ExitCallsPoint o) exits exit are.known known;
+}
+
+-- execution passes point n
+pub passed_more : (o : Coded) (flags : List Bool) (n : ℕ) → is_dead_end o (point_at o n) ≡ false → n < count_of o → AreFlagged (λ q. is_dead_end o (point_at o q)) false flags (count_of o) n → AreFlagged (λ q. is_dead_end o (point_at o q)) false flags (count_of o) (n + 1)
+passed_more o flags n passed inside are = record {
+  long = are.long;
+  told = λ q d below. elim (cases_lt q n) [
+    | inl less ↦ are.told q d less
+    | inr more ↦
+        let same : q ≡ n = omega arith in
+        are.rest q d (omega arith) (omega (arith, same, inside)) ∙ sym (ap (λ (k : ℕ). is_dead_end o (point_at o k)) same ∙ passed)
+  ];
+  rest = λ q d above below. are.rest q d (omega arith) below;
 }
 
 pub no_edges : (o : Coded) → AreEdges o (0 ∷ []) [] [] 0

@@ -94,7 +94,8 @@ module _ (o : Coded) (n : ℕ) (is : IsStraight o n) where
   no_fixups : fixups o p ≡ []
   no_fixups = no_place (fixups o p) (neither (is_some_place (fixups o p)) (is_dead_end o p) unlisted.1).0
 
-  no_dead_end : is_dead_end o p ≡ false
+  -- execution passes it
+  pub no_dead_end : is_dead_end o p ≡ false
   no_dead_end = (neither (is_some_place (fixups o p)) (is_dead_end o p) unlisted.1).1
 
   goes_on_is : goes_on o p ≡ true

@@ -1,22 +1,21 @@
 //! What the points are to returns, by their numbers.
 
-ghost use Rattle.std.specs.Prelude.{◌≡◌, ◌+◌, ◌<◌, IfOk, false};
+ghost use Rattle.std.specs.Prelude.{◌≡◌, ◌+◌, ◌<◌, false};
 ghost use Rattle.flow_defs.specs.Arrival.{is_dead_end};
 ghost use Rattle.flow_defs.specs.Code.{point_at};
 ghost use Rattle.flow_defs.specs.Program.{program_of};
 ghost use Rattle.return_search.specs.Told.{exit_of};
 ghost use Rattle.machine_defs.specs.MayReturn.{is_listed, is_listed_function as is_listed_in};
 ghost use Rattle.return_search.specs.Flagged.{AreFlagged};
-ghost use Rattle.control_flow.specs.Listed.{AreDeadEnds, CallsPoint, count_of};
+ghost use Rattle.control_flow.specs.Listed.{CallsPoint, count_of};
 ghost use Rattle.control_flow.specs.Named.{AreLookedUp};
 
 use crate::symbol_names::is_listed_name;
 use machine_defs::Role;
 use object_points::PointPlaces;
-use ot_base::{Lists, NoMemory};
+use ot_base::Lists;
 use point_edges::FlowPoints;
 use return_search::Exit;
-use std::alloc::Global;
 
 /// How many points there are.
 pub(crate) fn count_points(places: &PointPlaces<'_, '_, '_>) -> u32
@@ -99,7 +98,7 @@ pub(crate) fn exit(
 }
 
 /// Sets the flag of a point that execution never passes.
-fn flag_dead_end(points: &FlowPoints<'_, '_, '_>, dead_ends: &mut Vec<bool>, n: u32)
+pub(crate) fn flag_dead_end(points: &FlowPoints<'_, '_, '_>, dead_ends: &mut Vec<bool>, n: u32)
     requires point { n < count_of points.now }
     requires so_far { AreFlagged (λ q. is_dead_end points.now (point_at points.now q)) false dead_ends.old.items (count_of points.now) n }
     ensures { AreFlagged (λ q. is_dead_end points.now (point_at points.now q)) false dead_ends.new.items (count_of points.now) (n + 1) }
@@ -107,19 +106,4 @@ fn flag_dead_end(points: &FlowPoints<'_, '_, '_>, dead_ends: &mut Vec<bool>, n: 
     if points.arrivals().is_dead_end(n) {
         dead_ends[n as usize] = true;
     }
-}
-
-/// Whether execution never passes the points. Most it passes.
-pub(crate) fn list_dead_ends(
-    alloc: Global,
-    points: &FlowPoints<'_, '_, '_>,
-) -> Result<Vec<bool>, NoMemory>
-    ensures { IfOk result (λ dead_ends. AreDeadEnds points.now dead_ends.items (count_of points.now)) }
-{
-    let count = count_points(points.places());
-    let mut dead_ends = vec![in alloc; false; count as usize]?;
-    for n in 0..count {
-        flag_dead_end(points, &mut dead_ends, n);
-    }
-    Ok(dead_ends)
 }

@@ -1,26 +1,27 @@
 //! Where control goes from the points, found by one look at each of them.
 
-ghost use Rattle.std.specs.Prelude.{◌≡◌, ◌+◌, ◌<◌, ◌≤◌, ◌^◌, ◌++◌, ◌∷◌, [], ℕ, List, All, IfOk, OnOk, Some, slice_get, true};
+ghost use Rattle.std.specs.Prelude.{◌≡◌, ◌+◌, ◌<◌, ◌≤◌, ◌^◌, ◌++◌, ◌∷◌, [], ℕ, Bool, List, All, IfOk, OnOk, Some, false, slice_get, true};
 ghost use Rattle.ot_base.specs.NameLists.{NameLists};
 ghost use Rattle.elf_objects.specs.Elf.{Elf};
 ghost use Rattle.flow_defs.specs.Coded.{Coded};
-ghost use Rattle.flow_defs.specs.Arrival.{insn_of_object};
+ghost use Rattle.flow_defs.specs.Arrival.{insn_of_object, is_dead_end};
 ghost use Rattle.flow_defs.specs.Code.{point_at};
 ghost use Rattle.flow_defs.specs.Edges.{goes};
 ghost use Rattle.flow_defs.specs.Program.{program_of};
 ghost use Rattle.flow_defs.specs.Roles.{role_of};
 ghost use Rattle.flow_defs.specs.Targets.{destination_of};
 ghost use Rattle.point_edges.specs.Jumps.{direct_way};
+ghost use Rattle.return_search.specs.Flagged.{AreFlagged};
 ghost use Rattle.return_search.specs.Told.{exit_of};
 ghost use Rattle.control_flow.specs.Found.{IsExit, IsFound, IsGathered, IsKept, IsListed};
-ghost use Rattle.control_flow.specs.Listed.{AreEdges, AreExits, ExitCallsPoint, count_of};
+ghost use Rattle.control_flow.specs.Listed.{AreDeadEnds, AreEdges, AreExits, ExitCallsPoint, count_of};
 ghost use Rattle.control_flow.specs.Lone.{AreLoneJumps};
 ghost use Rattle.control_flow.specs.Named.{AreLookedUp};
 ghost use Rattle.control_flow.specs.Numbers.{AreNumbered};
 ghost use Rattle.point_edges.specs.Straight.{IsStraight};
 ghost use Rattle.control_flow.specs.Transfers.{IsTransfer, IsTransferIfBack};
 
-use crate::listed::{count_points, exit};
+use crate::listed::{count_points, exit, flag_dead_end};
 use crate::lone_jumps::LoneJumps;
 use crate::symbol_names::no_names;
 use crate::transfers::{TransferList, USUAL, number_transfer, transfer_of};
@@ -51,6 +52,8 @@ pub(crate) struct Outgoing {
     pub(crate) alike: Vec<u32>,
     /// What they are to a return.
     pub(crate) exits: Vec<StoredExit>,
+    /// Whether execution never passes them.
+    pub(crate) dead_ends: Vec<bool>,
     /// Their transfers, where every call can come back.
     pub(crate) transfers: TransferList,
 }
@@ -189,6 +192,8 @@ struct Gathered {
     transfers: Vec<Transfer>,
     /// For each symbol whether its name is listed as one that never returns, once it was looked up.
     names: Vec<Option<bool>>,
+    /// For each point whether execution never passes it, and false for those to come.
+    dead_ends: Vec<bool>,
 }
 
 impl Gathered {
@@ -199,6 +204,7 @@ impl Gathered {
         ensures alike { IfOk result (λ gathered. gathered.jumps.alike.items ≡ []) }
         ensures transfers { IfOk result (λ gathered. gathered.transfers.items ≡ USUAL ∷ []) }
         ensures names { IfOk result (λ gathered. (o : Elf) → (lists : NameLists) → AreLookedUp o lists gathered.names.items) }
+        ensures dead_ends { IfOk result (λ gathered. (holds : ℕ → Bool) → AreFlagged holds false gathered.dead_ends.items points 0) }
     {
         let mut transfers = Vec::new(alloc);
         transfers.push(USUAL)?;
@@ -208,6 +214,7 @@ impl Gathered {
             jumps: LoneJumps::new(alloc),
             transfers,
             names: no_names(alloc, object)?,
+            dead_ends: vec![in alloc; false; points]?,
         })
     }
 }
@@ -227,10 +234,13 @@ fn list_any(
     requires names { AreLookedUp points.now.elf lists.now gathered.old.names.items }
     requires jumps { AreLoneJumps points.now gathered.old.jumps n }
     requires numbered { AreNumbered (IsTransferIfBack points.now) gathered.old.transfers.items numbers.now n }
+    requires dead_ends { AreFlagged (λ q. is_dead_end points.now (point_at points.now q)) false gathered.old.dead_ends.items (count_of points.now) n }
     ensures names { OnOk result (AreLookedUp points.now.elf lists.now gathered.new.names.items) }
     ensures jumps { OnOk result (AreLoneJumps points.now gathered.new.jumps (n + 1)) }
+    ensures dead_ends { OnOk result (AreFlagged (λ q. is_dead_end points.now (point_at points.now q)) false gathered.new.dead_ends.items (count_of points.now) (n + 1)) }
     ensures gathered { IfOk result (λ kept. IsGathered points.now lists.now n gathered.old gathered.new kept.exit kept.number) }
 {
+    flag_dead_end(points, &mut gathered.dead_ends, n);
     let found = look_for_jumps(
         alloc,
         points,
@@ -243,7 +253,8 @@ fn list_any(
     keep(points, lists, n, found, &mut gathered.transfers, numbers)
 }
 
-/// Lists a point, where those before it have these numbers of transfers. A straight one has the transfer of most points.
+/// Lists a point, where those before it have these numbers of transfers. A straight one has the transfer of most points, and
+/// execution passes it.
 #[inline(always)]
 fn list_point(
     alloc: Global,
@@ -259,8 +270,10 @@ fn list_point(
     requires jumps { AreLoneJumps points.now gathered.old.jumps n }
     requires numbered { AreNumbered (IsTransferIfBack points.now) gathered.old.transfers.items numbers.now n }
     requires usual { slice_get gathered.old.transfers.items 0 ≡ Some USUAL }
+    requires dead_ends { AreFlagged (λ q. is_dead_end points.now (point_at points.now q)) false gathered.old.dead_ends.items (count_of points.now) n }
     ensures names { OnOk result (AreLookedUp points.now.elf lists.now gathered.new.names.items) }
     ensures jumps { OnOk result (AreLoneJumps points.now gathered.new.jumps (n + 1)) }
+    ensures dead_ends { OnOk result (AreFlagged (λ q. is_dead_end points.now (point_at points.now q)) false gathered.new.dead_ends.items (count_of points.now) (n + 1)) }
     ensures gathered { IfOk result (λ kept. IsGathered points.now lists.now n gathered.old gathered.new kept.exit kept.number) }
 {
     if !points.arrivals().is_straight(n) {
@@ -285,6 +298,7 @@ pub(crate) fn list_outgoing(
 ) -> Result<Outgoing, NoMemory>
     ensures edges { IfOk result (λ list. AreEdges points.now list.edges.starts.items list.edges.edges.items list.alike.items (count_of points.now)) }
     ensures exits { IfOk result (λ list. AreExits points.now lists.now list.exits.items (count_of points.now)) }
+    ensures dead_ends { IfOk result (λ list. AreDeadEnds points.now list.dead_ends.items (count_of points.now)) }
     ensures transfers { IfOk result (λ list. AreNumbered (IsTransferIfBack points.now) list.transfers.transfers.items list.transfers.numbers.items (count_of points.now)) }
 
     // Points have numbers of 32 bits.
@@ -313,12 +327,14 @@ pub(crate) fn list_outgoing(
         edges,
         jumps,
         transfers,
+        dead_ends,
         ..
     } = gathered;
     Ok(Outgoing {
         edges: EdgeList { starts, edges },
         alike: jumps.alike,
         exits,
+        dead_ends,
         transfers: TransferList { transfers, numbers },
     })
 }

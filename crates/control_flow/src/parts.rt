@@ -51,9 +51,10 @@ fn edge_parts(
         edges,
         alike,
         exits,
+        dead_ends,
         transfers,
     } = list_outgoing(alloc, points, lists)?;
-    let returns = returns_of(alloc, points, lists, edges, exits)?;
+    let returns = returns_of(alloc, points, lists, edges, exits, dead_ends)?;
     let transfers = settle_transfers(points, transfers, &returns)?;
     Ok(EdgeParts {
         returns,

@@ -5,11 +5,10 @@ ghost use Rattle.machine_defs.specs.IsProgram.{IsProgram};
 ghost use Rattle.flow_defs.specs.Program.{program_of};
 ghost use Rattle.return_search.specs.Shape.{HasShape, HaveShape, points_of};
 ghost use Rattle.return_search.specs.Told.{TellsFlow};
-ghost use Rattle.control_flow.specs.Listed.{AreEdges, AreEntered, AreExits, count_of};
+ghost use Rattle.control_flow.specs.Listed.{AreDeadEnds, AreEdges, AreEntered, AreExits, count_of};
 ghost use Rattle.control_flow.specs.Returns.{AreReturns};
 
 use crate::entering::list_entered;
-use crate::listed::list_dead_ends;
 use crate::outgoing::EdgeList;
 use object_law::flow_laws::program_is_one;
 use ot_base::{Lists, NoMemory};
@@ -32,9 +31,11 @@ fn flow_of(
     lists: &Lists,
     list: EdgeList,
     exits: Vec<StoredExit>,
+    dead_ends: Vec<bool>,
 ) -> Result<Flow, NoMemory>
     requires edges { (alike : List ℕ) × AreEdges points.now list.starts.items list.edges.items alike (count_of points.now) }
     requires exits { AreExits points.now lists.now exits.items (count_of points.now) }
+    requires dead_ends { AreDeadEnds points.now dead_ends.items (count_of points.now) }
     requires few { count_of points.now < 2 ^ 32 }
     ensures told { IfOk result (TellsFlow (program_of points.now lists.now)) }
     ensures listed { IfOk result (λ flow. (flow.starts ≡ list.starts) × (flow.edges ≡ list.edges)) }
@@ -44,7 +45,6 @@ fn flow_of(
 {
     program_is_right(points, lists);
     let EdgeList { starts, edges } = list;
-    let dead_ends = list_dead_ends(alloc, points)?;
     let entered = list_entered(alloc, points)?;
     Ok(Flow {
         starts,
@@ -62,14 +62,19 @@ pub(crate) fn returns_of(
     lists: &Lists,
     list: EdgeList,
     exits: Vec<StoredExit>,
+    dead_ends: Vec<bool>,
 ) -> Result<Returns, NoMemory>
     requires edges { (alike : List ℕ) × AreEdges points.now list.starts.items list.edges.items alike (count_of points.now) }
     requires exits { AreExits points.now lists.now exits.items (count_of points.now) }
+    requires dead_ends { AreDeadEnds points.now dead_ends.items (count_of points.now) }
     requires few { count_of points.now < 2 ^ 32 }
     ensures shape { IfOk result (HaveShape (count_of points.now)) }
     ensures told { IfOk result (AreReturns points.now lists.now list.starts.items list.edges.items) }
     ensures entered { IfOk result (λ returns. AreEntered points.now returns.entered.items (count_of points.now)) }
 {
     program_is_right(points, lists);
-    find_returns(alloc, flow_of(alloc, points, lists, list, exits)?)
+    find_returns(
+        alloc,
+        flow_of(alloc, points, lists, list, exits, dead_ends)?,
+    )
 }

@@ -1,9 +1,12 @@
-use Rattle.std.proofs.Common.{◌≡◌, ◌+◌, ◌^◌, ◌<◌, ◌++◌, ◌∷◌, [], ℕ, List, Some, length, refl, sym, ap, subst, ◌∙◌, arith}
+use Rattle.std.proofs.Common.{◌≡◌, ◌+◌, ◌^◌, ◌<◌, ◌++◌, ◌∷◌, [], ℕ, List, Some, length, false, refl, sym, ap, subst, ◌∙◌, arith}
 use Rattle.std.specs.Prelude.{slice_get}
 use Rattle.flow_defs.specs.Coded.{Coded}
+use Rattle.flow_defs.specs.Arrival.{is_dead_end}
+use Rattle.flow_defs.specs.Code.{point_at}
 use Rattle.machine_defs.specs.declared.flow.Edge.{Edge}
 use Rattle.program_graph.specs.declared.parts.Transfer.{Transfer}
 use Rattle.return_search.specs.declared.searched_flow.Exit.{Exit}
+use Rattle.return_search.specs.Flagged.{AreFlagged}
 use Rattle.control_flow.specs.declared.outgoing.Gathered.{Gathered}
 use Rattle.control_flow.specs.Listed.{AreEdges, count_of}
 use Rattle.control_flow.specs.declared.transfers.TheConstants.{USUAL}
@@ -30,6 +33,7 @@ loop-n-init c =
       c.in_ok-exits.ensures.exact,
       c.in_ok-numbers.ensures.len,
       c.in_ok-numbers.ensures.exact,
+      subst (λ (count : ℕ). AreFlagged (λ (q : ℕ). is_dead_end o (point_at o q)) false none.dead_ends.items count 0) (c.count_points-count.ensures ∙ ap count_of c.places.ensures) (c.in_ok-gathered.ensures.dead_ends (λ (q : ℕ). is_dead_end o (point_at o q))),
     )
 
 pub loop-n-preserved : goal.loop-n-preserved
@@ -59,6 +63,7 @@ loop-n-preserved c =
       c.push_reserved-in-loop-n-2.ensures.capacity ∙ c.loop-n.invariant.6,
       omega (arith, c.push_reserved-in-loop-n-3.ensures.len, c.loop-n.invariant.7),
       c.push_reserved-in-loop-n-3.ensures.capacity ∙ c.loop-n.invariant.8,
+      c.in_ok-kept.ensures.dead_ends,
     )
 
 pub returns-clause-edges : goal.returns-clause-edges

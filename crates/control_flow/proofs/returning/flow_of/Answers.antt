@@ -13,14 +13,14 @@ returns c =
       starts = c.args.list.starts;
       edges = c.args.list.edges;
       exits = c.args.exits;
-      dead_ends = c.in_ok-dead_ends.dead_ends;
+      dead_ends = c.args.dead_ends;
       entered = c.in_ok-entered.entered;
     } in
     let entered : AreEntered o c.in_ok-entered.entered.items (count_of o) = c.in_ok-entered.ensures in
     record {
       listed = (refl, refl);
-      told = tells_flow o lists flow c.requires.edges.0 c.requires.edges.1 c.requires.exits c.in_ok-dead_ends.ensures entered c.program_is_right.ensures;
-      shape = has_shape o lists flow c.requires.edges.0 c.requires.edges.1 c.requires.exits c.in_ok-dead_ends.ensures entered c.program_is_right.ensures c.requires.few;
-      count = flow_count o lists flow c.requires.edges.0 c.requires.edges.1 c.requires.exits c.in_ok-dead_ends.ensures entered c.program_is_right.ensures;
+      told = tells_flow o lists flow c.requires.edges.0 c.requires.edges.1 c.requires.exits c.requires.dead_ends entered c.program_is_right.ensures;
+      shape = has_shape o lists flow c.requires.edges.0 c.requires.edges.1 c.requires.exits c.requires.dead_ends entered c.program_is_right.ensures c.requires.few;
+      count = flow_count o lists flow c.requires.edges.0 c.requires.edges.1 c.requires.exits c.requires.dead_ends entered c.program_is_right.ensures;
       entered = entered;
     }
