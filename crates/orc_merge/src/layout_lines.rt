@@ -8,7 +8,7 @@ ghost use Rattle.orc_merge.specs.LayoutLines.{file_said, place_said, said, words
 ghost use Rattle.orc_merge.specs.LayoutReading.{IsReadAs, said_by};
 
 use crate::faults::{LayoutWhy, LineFault};
-use crate::numbers::{decimal, hexadecimal};
+use orc_walk::{decimal, hexadecimal};
 use std::alloc::{AllocError, Global};
 use std::str::from_utf8;
 

@@ -11,7 +11,6 @@ mod laws;
 mod layout;
 mod layout_lines;
 mod merged;
-mod numbers;
 mod overlaps;
 mod part;
 mod places;

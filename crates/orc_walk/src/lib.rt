@@ -29,6 +29,7 @@ pub use image::Image;
 pub use image_fault::{ImageFault, ImageWhy};
 pub use image_laws::memory_is_said;
 pub use memory::Memory;
+pub use numbers::{decimal, hexadecimal};
 pub use table::Table;
 pub use table_defs::{Frame, Range, Regs, Stop};
 pub use walks::walk;

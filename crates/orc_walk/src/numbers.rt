@@ -1,4 +1,4 @@
-//! The numbers of an image's text.
+//! The numbers of an image's text, which are written so in other texts too.
 
 ghost use Rattle.std.specs.Prelude.{◌≡◌, ◌<◌, ◌≤◌, All, IfOk, IfSome, length, option_map};
 ghost use Rattle.hex.specs.Hex.{decode_of};
@@ -77,7 +77,7 @@ fn is_decimal(word: &[u8]) -> bool
 
 /// The number that a word of 1 to 16 lower-case hexadecimal digits writes.
 #[tactic(auto, unfolding(crate::specs::Numbers::hexadecimal))]
-pub(crate) fn hexadecimal(word: &[u8]) -> Option<u64>
+pub fn hexadecimal(word: &[u8]) -> Option<u64>
     ensures { result ≡ hexadecimal word.now }
 {
     if is_hexadecimal(word) {
@@ -89,7 +89,7 @@ pub(crate) fn hexadecimal(word: &[u8]) -> Option<u64>
 
 /// The number below 2^32 that a word of 1 to 10 decimal digits writes.
 #[tactic(auto, unfolding(crate::specs::Numbers::decimal))]
-pub(crate) fn decimal(word: &[u8]) -> Option<u32>
+pub fn decimal(word: &[u8]) -> Option<u32>
     ensures { result ≡ decimal word.now }
 {
     if !is_decimal(word) {
