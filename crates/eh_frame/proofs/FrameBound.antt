@@ -1,16 +1,14 @@
 -- How long the call frame information of rows is at most.
 use Rattle.std.proofs.Common.{◌≡◌, ℕ, ◌+◌, ◌*◌, ◌<◌, ◌≤◌, Bool, true, false, cond, List, [], ◌∷◌, ◌++◌, length, refl, sym, ◌∙◌, arith, length-append}
-use Rattle.std.specs.Prelude.{◌==◌, filter, flat_map}
+use Rattle.std.specs.Prelude.{◌==◌, filter}
 use Rattle.std.specs.List.{range_with_len}
 use Rattle.std.proofs.lemmas.Bool.{eqb-true, le-leb, leb-true, true≢false}
 use Rattle.std.proofs.lemmas.List.FromFn.{length-range_with_len}
 use Rattle.std.proofs.lemmas.List.Sums.{length-filter, count_by-le-length}
 use Rattle.std.proofs.Math.Dec.{leb}
 use Rattle.ot_base.specs.declared.row.PlacedRow.{PlacedRow}
-use Rattle.elf_objects.specs.declared.symbol.Reloc.{Reloc}
 use Rattle.elf_objects.specs.Contents.{section_at}
 use Rattle.elf_objects.specs.Elf.{Elf}
-use Rattle.orc_bytes.specs.RelocBytes.{bytes_of_reloc}
 use Rattle.eh_frame.specs.Records.{cie, entry_bytes, terminator}
 use Rattle.eh_frame.specs.RowFrames.{entries_bytes, frame_rela, frame_section, frame_slots, has_row, rows_in, sections_with, slots_from, spelled_in}
 use Rattle.eh_frame.proofs.EntryLemmas.{entry_length}
@@ -84,17 +82,6 @@ frame_bound o rows =
     omega arith
 
 -- The relocations.
-
-length-reloc : (r : Reloc) → length (bytes_of_reloc r) ≡ 24
-unfolding bytes_of_reloc
-length-reloc r = simp length-append refl
-
-pub length-relocs : (rs : List Reloc) → length (flat_map bytes_of_reloc rs) ≡ 24 * length rs
-length-relocs [] = refl
-length-relocs (r ∷ rs) =
-    let rest = length-relocs rs in
-    let here = length-reloc r in
-    omega (arith, length-append (bytes_of_reloc r) (flat_map bytes_of_reloc rs))
 
 slots_length : (o : Elf) (rows : List PlacedRow) (secs : List ℕ) (at : ℕ) → length (slots_from o rows at secs) ≡ length secs
 slots_length o rows [] at = refl

@@ -1,31 +1,19 @@
 -- The relocations of the entries: they are read back, and each lies in `.eh_frame`.
-use Rattle.std.proofs.Common.{◌≡◌, ℕ, ◌+◌, ◌*◌, ◌/◌, ◌^◌, ◌<◌, ◌≤◌, List, [], ◌∷◌, ◌++◌, map, length, Option, Some, None, pos, refl, ◌∙◌, ap, subst, FitsSigned, Fits, w64, arith, length-append}
-use Rattle.std.specs.Prelude.{All, IsSome, unwrap_or, flat_map}
-use Rattle.std.specs.List.{range_with_len}
+use Rattle.std.proofs.Common.{◌≡◌, ℕ, ◌+◌, ◌^◌, ◌<◌, ◌≤◌, List, [], ◌∷◌, ◌++◌, length, Option, Some, ◌∙◌, ap, subst, FitsSigned, Fits, w64, arith, length-append}
+use Rattle.std.specs.Prelude.{All, unwrap_or}
 use Rattle.std.proofs.Math.Facts.{sfits_to_z, to_z_pos}
-use Rattle.std.proofs.lemmas.List.{take_all}
-use Rattle.std.proofs.lemmas.List.Elements.{All-nil, All-cons, All-head, All-tail, All-weaker}
+use Rattle.std.proofs.lemmas.List.Elements.{All-nil, All-cons, All-head, All-tail}
 use Rattle.ot_base.specs.declared.row.PlacedRow.{PlacedRow}
-use Rattle.elf_objects.specs.declared.symbol.Reloc.{Reloc}
 use Rattle.elf_objects.specs.Elf.{Elf}
 use Rattle.elf_objects.specs.Contents.{section_at, section_symbol_of}
-use Rattle.elf_objects.specs.Symbols.{IsRelocOf}
-use Rattle.elf_objects.specs.Table.{reloc_at}
 use Rattle.elf_write.specs.Added.{relocs_in}
-use Rattle.elf_write.proofs.Says.{map-same}
-use Rattle.orc_bytes.specs.RelocBytes.{bytes_of_reloc, IsReloc}
 use Rattle.orc_bytes.proofs.OneList.{symbol_below}
-use Rattle.orc_bytes.proofs.ReadBack.{relocs_read}
+use Rattle.orc_output.proofs.Slots.{IsInside, relocs_of}
 use Rattle.eh_frame.specs.Records.{cie, entry_bytes, terminator}
 use Rattle.eh_frame.specs.RowFrames.{address_slot, entries_bytes, frame_rela, frame_section, frame_slots, sections_with, slots_from, spelled_in, CanHaveFrames}
 use Rattle.eh_frame.proofs.EntryLemmas.{entry_length}
-use Rattle.eh_frame.proofs.FrameBound.{frame_bound, length-relocs}
+use Rattle.eh_frame.proofs.FrameBound.{frame_bound}
 use Rattle.eh_frame.proofs.FrameLaw.{IsReady, all_ready}
-
--- 24 bytes hold the relocation, its symbol is one of the object's, and its four bytes end before an offset or there
-pub record IsInside (o : Elf) (end : ℕ) (r : Reloc) : Type 0 where
-  pub bits : IsReloc r
-  pub inside : IsRelocOf r (length o.symbols) end
 
 slot_inside : (o : Elf) (at sec symbol end : ℕ) → at + 12 ≤ end → end < 2 ^ 32 → length o.symbols ≤ 4194304 → section_symbol_of o sec ≡ Some symbol
     → IsInside o end (address_slot (section_symbol_of o) at sec)
@@ -70,16 +58,6 @@ slots_inside o rows h few can =
     let d : length (entries ++ terminator) ≡ length entries + 4 = length-append entries terminator in
     slots_inside_from o rows (sections_with o rows) 24 (length (cie ++ (entries ++ terminator))) (omega arith) (short_section o rows h can.few) few (all_ready o rows can)
 
--- the relocations in a body are those that it was made of
-relocs_of : (list : List Reloc) → All IsReloc list → relocs_in (flat_map bytes_of_reloc list) ≡ list
-relocs_of list fit =
-    let body : List ℕ = flat_map bytes_of_reloc list in
-    let size : length body ≡ 24 * length list = length-relocs list in
-    let count : length body / 24 ≡ length list = omega arith in
-    ap (λ (n : ℕ). map (λ k. reloc_at body (24 * k)) (range_with_len 0 n)) count
-    ∙ map-same (λ (k : ℕ). reloc_at body (24 * k)) (λ (k : ℕ). reloc_at body (0 + 24 * k)) (length list) (reloc_at body 0) (λ k h. ap (reloc_at body) (omega arith))
-    ∙ relocs_read body 0 list fit (take_all (24 * length list) body (omega arith))
-
+-- the relocations in the body are those that it was made of
 pub relocs_back : (o : Elf) (rows : List PlacedRow) → length o.sections ≤ 262144 → length o.symbols ≤ 4194304 → CanHaveFrames o rows → relocs_in (frame_rela o rows) ≡ frame_slots o rows
-relocs_back o rows h few can =
-    relocs_of (frame_slots o rows) (All-weaker (IsInside o (length (frame_section o rows))) IsReloc (λ r i. i.bits) (frame_slots o rows) (slots_inside o rows h few can))
+relocs_back o rows h few can = relocs_of o (length (frame_section o rows)) (frame_slots o rows) (slots_inside o rows h few can)

@@ -1,24 +1,22 @@
 -- The object with the section symbols may have the frame sections, and what comes of it.
-use Rattle.std.proofs.Common.{◌≡◌, ℕ, ◌<◌, ◌≤◌, ◌^◌, List, [], ◌∷◌, length, get_or, true, refl, sym, ap, subst, ◌∙◌, arith}
-use Rattle.std.specs.Prelude.{◌==◌, All, Some, slice_get}
+use Rattle.std.proofs.Common.{◌≡◌, ℕ, ◌<◌, ◌≤◌, List, get_or, true, refl, sym, ap, subst, ◌∙◌, arith}
+use Rattle.std.specs.Prelude.{◌==◌, Some, slice_get}
 use Rattle.std.proofs.lemmas.Bool.{eq-eqb}
-use Rattle.std.proofs.lemmas.Bool.Decides.{nat_tests}
-use Rattle.std.proofs.lemmas.List.Elements.{All-map, All-nil, All-weaker}
+use Rattle.std.proofs.lemmas.List.Elements.{All-weaker}
 use Rattle.std.proofs.lemmas.List.Folds.{list_any_at}
 use Rattle.std.proofs.lemmas.Option.{get_or_from_slice_get, slice_get_within}
 use Rattle.ot_base.specs.declared.row.PlacedRow.{PlacedRow}
 use Rattle.elf_objects.specs.Contents.{is_text, no_section, section_at}
 use Rattle.elf_objects.specs.Elf.{Elf, SectionEntry}
 use Rattle.elf_objects.specs.Object.{IsObject}
-use Rattle.elf_write.specs.Added.{CanAdd, IsAddable}
-use Rattle.elf_write.specs.Layout.{NewEntry}
 use Rattle.elf_write.specs.Object.{appended_to}
 use Rattle.elf_write.specs.AddedSymbols.{IsAdded}
-use Rattle.elf_write.specs.SymbolObject.{object_with_symbols, section_with}
 use Rattle.elf_write.proofs.Same.{added}
 use Rattle.orc_output.specs.Needed.{has_row, needed_symbols}
-use Rattle.orc_output.specs.Tables.{with_symbols}
-use Rattle.orc_output.proofs.FileBound.{bytes-inserted}
+use Rattle.orc_output.specs.Tables.{IsRowIn, with_symbols}
+use Rattle.orc_output.proofs.Extended.{stays}
+use Rattle.orc_output.proofs.Inserted.{names_stay, no_more, short_bytes, symbols_added}
+use Rattle.orc_output.proofs.Insertable.{HasRoom, can_insert, inserted_bound}
 use Rattle.orc_output.proofs.Known.{Known, known}
 use Rattle.orc_output.proofs.NeededSections.{needs_one}
 use Rattle.orc_output.proofs.RowPlaces.{has_symbol, sections_stay, size_within, text_stays}
@@ -27,33 +25,17 @@ use Rattle.eh_frame.proofs.FrameLaw.{no_rule_behind, rule_is_of_last_row}
 use Rattle.eh_frame.specs.FrameOutput.{CanHaveSections, IsOther, frame_sections}
 use Rattle.eh_frame.specs.Framed.{FollowsRows, IsFit, IsFrameRowIn, IsFramed, framed_object}
 use Rattle.eh_frame.proofs.Addable.{can_add}
-use Rattle.eh_frame.proofs.Held.{held, stays}
-use Rattle.eh_frame.proofs.Insertable.{can_insert, inserted_bound}
+use Rattle.eh_frame.proofs.Held.{held}
 
-short_bytes : (o : Elf) (rows : List PlacedRow) → IsFit o rows → length (with_symbols o rows).bytes ≤ 268435456
-short_bytes o rows fit =
-    let bound = inserted_bound o rows fit.object fit.can fit.few in
-    let same = ap length (bytes-inserted o (needed_symbols o rows)) in
-    omega arith
-
--- the file with the section symbols, whose symbols keep what they are
-abbrev no_more : List NewEntry
-no_more = []
-
-inserted : (o : Elf) (rows : List PlacedRow) → IsFit o rows → IsAdded o (needed_symbols o rows) no_more (appended_to (with_symbols o rows) no_more)
-inserted o rows fit =
-    let secs : List ℕ = needed_symbols o rows in
-    let none : List NewEntry = no_more in
-    let short = short_bytes o rows fit in
-    let sections = sections_stay o secs in
-    let few = fit.can.few in
-    let can : CanAdd (object_with_symbols o secs) none = record {
-      few = omega arith;
-      size = omega arith;
-      each = All-nil (IsAddable (object_with_symbols o secs) none);
-      apart = λ i j d lt inside. absurd (omega arith);
-    } in
-    added o.bytes o secs none fit.bytes fit.object (can_insert o rows fit.object fit.can fit.few) can
+pub has_room : (o : Elf) (rows : List PlacedRow) → IsFit o rows → HasRoom o rows
+has_room o rows fit = record {
+  bytes = fit.bytes;
+  object = fit.object;
+  each = All-weaker (IsFrameRowIn o) (IsRowIn o) (λ placed is. is.place) rows fit.can.each;
+  sections = (let few = fit.can.few in omega arith);
+  short = fit.can.short;
+  few = fit.few;
+}
 
 -- each row has its place
 row_of : (o : Elf) (rows : List PlacedRow) → IsFit o rows → (placed : PlacedRow) → has_row rows placed.place.sec ≡ true → IsFrameRowIn o placed → IsFrameRowOf (with_symbols o rows) placed
@@ -66,24 +48,11 @@ row_of o rows fit placed has row =
       section = is.section;
       at = text_stays o (needed_symbols o rows) sec is.section is.at is.text;
       text = is.text;
-      symbol = has_symbol o (needed_symbols o rows) sec (inserted o rows fit).same (λ free. needs_one o rows sec (slice_get_within o.sections sec is.section is.at) has free);
+      symbol = has_symbol o (needed_symbols o rows) sec (symbols_added o rows (has_room o rows fit)).same (λ free. needs_one o rows sec (slice_get_within o.sections sec is.section is.at) has free);
       inside = is.inside;
       short = omega arith;
       row = row.row;
     }
-
-name_stays : (o : Elf) (secs : List ℕ) (s : SectionEntry) → (section_with o secs s).name ≡ s.name
-name_stays o secs s = grind (arith, nat_tests)
-
-other_stays : (o : Elf) (secs : List ℕ) (s : SectionEntry) → IsOther s → IsOther (section_with o secs s)
-other_stays o secs s is =
-    let e = name_stays o secs s in
-    record { frame = λ z. is.frame (sym e ∙ z); rela = λ z. is.rela (sym e ∙ z) }
-
-others : (o : Elf) (secs : List ℕ) → All IsOther o.sections → All IsOther (object_with_symbols o secs).sections
-others o [] all = all
-others o (sec ∷ secs) all =
-    All-map IsOther (section_with o (sec ∷ secs)) o.sections (All-weaker IsOther (λ s. IsOther (section_with o (sec ∷ secs) s)) (λ s is. other_stays o (sec ∷ secs) s is) o.sections all)
 
 pub can_have_sections : (o : Elf) (rows : List PlacedRow) → IsFit o rows → CanHaveSections (with_symbols o rows) rows
 can_have_sections o rows fit =
@@ -96,9 +65,9 @@ can_have_sections o rows fit =
         ascend = fit.can.ascend;
         few = fit.can.few_rows;
       };
-      none = others o secs fit.can.none;
+      none = names_stay IsOther (λ s t e is. record { frame = λ z. is.frame (sym e ∙ z); rela = λ z. is.rela (sym e ∙ z) }) o secs fit.can.none;
       few = omega arith;
-      short = short_bytes o rows fit;
+      short = short_bytes o secs (inserted_bound o rows (has_room o rows fit));
     }
 
 -- With the frame sections it has the frames.
@@ -110,7 +79,7 @@ is_framed o rows b p file fit object is layout =
     let facts = known b n (subst (IsObject b) is object) in
     let have = can_have_sections o rows fit in
     let can = can_add n rows facts have in
-    let done = added o.bytes o secs (frame_sections n rows) fit.bytes fit.object (can_insert o rows fit.object fit.can fit.few) can in
+    let done = added o.bytes o secs (frame_sections n rows) fit.bytes fit.object (can_insert o rows (has_room o rows fit)) can in
     record {
       added = subst (IsAdded o secs (frame_sections n rows)) (sym (layout ∙ ap (λ (x : Elf). appended_to x (frame_sections x rows)) is)) done;
       holds = held n rows facts have;
@@ -125,9 +94,9 @@ follows_rows o rows file fit framed = record {
 }
   where
     facts : Known (with_symbols o rows)
-    facts = known (appended_to (with_symbols o rows) no_more) (with_symbols o rows) (inserted o rows fit).object
+    facts = known (appended_to (with_symbols o rows) no_more) (with_symbols o rows) (symbols_added o rows (has_room o rows fit)).object
 
     size : (sec : ℕ) (section : SectionEntry) → slice_get o.sections sec ≡ Some section → is_text section ≡ true → section.size ≡ (section_at (framed_object o rows) sec).size
     size sec section at text =
-        let there : slice_get (framed_object o rows).sections sec ≡ Some section = stays (with_symbols o rows) rows facts sec section (text_stays o (needed_symbols o rows) sec section at text) text in
+        let there : slice_get (framed_object o rows).sections sec ≡ Some section = stays (with_symbols o rows) (frame_sections (with_symbols o rows) rows) facts sec section (text_stays o (needed_symbols o rows) sec section at text) text in
         sym (ap (λ (s : SectionEntry). s.size) (get_or_from_slice_get (framed_object o rows).sections sec section no_section there))

@@ -1,127 +1,41 @@
 -- The ORC sections of the result are the rows.
-use Rattle.std.proofs.Common.{◌≡◌, ◌≢◌, inl, inr, ℕ, ◌+◌, ◌^◌, ◌<◌, Bool, true, false, cond, eqb, List, [], ◌∷◌, map, length, get_or, Some, refl, sym, ap, ◌∙◌, arith}
-use Rattle.std.specs.Prelude.{All, bytes_eq, codes, option_and_then, option_map, slice_get, ◌==◌}
-use Rattle.std.specs.List.{enumerate_from, position_or_len}
-use Rattle.std.proofs.lemmas.Bool.{and_parts, cases_Bool, eq-eqb, eqb-true, ne_eqb}
+use Rattle.std.proofs.Common.{◌≡◌, ◌≢◌, ◌+◌, ◌^◌, ◌<◌, true, eqb, List, length, Some, refl, ap, ◌∙◌, arith}
+use Rattle.std.specs.Prelude.{codes}
+use Rattle.std.proofs.lemmas.Bool.{eq-eqb}
 use Rattle.std.proofs.lemmas.List.Elements.{All-weaker}
-use Rattle.std.proofs.lemmas.List.FromFn.{get_or-map-range_with_len, length-map-range_with_len}
-use Rattle.std.proofs.lemmas.Option.{get_or_from_slice_get, slice_get_read, slice_get_within}
-use Rattle.std.proofs.lemmas.Slice.Eq.{bytes_eq-Decides}
 use Rattle.ot_base.specs.declared.row.PlacedRow.{PlacedRow}
 use Rattle.elf_objects.specs.declared.symbol.Reloc.{Reloc}
-use Rattle.elf_objects.specs.Contents.{is_text, no_section, section_symbol_of}
-use Rattle.elf_objects.specs.Elf.{Elf, SectionEntry}
-use Rattle.elf_objects.specs.declared.TheConstants.{SHT_PROGBITS}
-use Rattle.elf_write.specs.Added.{new_sections, old_section, relocs_in, relocs_with}
-use Rattle.elf_write.specs.Layout.{NewEntry, Input, all_names, end_of, names_place, long_count}
-use Rattle.elf_write.specs.Object.{input_of_object}
-use Rattle.orc_bytes.specs.Sections.{HoldsOrc, IsRowOf, body_named, section_named, row_section, ip_section, rela_section}
+use Rattle.elf_objects.specs.Contents.{section_symbol_of}
+use Rattle.elf_objects.specs.Elf.{Elf}
+use Rattle.elf_write.specs.Added.{relocs_in, relocs_with}
+use Rattle.elf_write.specs.Layout.{NewEntry}
+use Rattle.orc_bytes.specs.Sections.{HoldsOrc, IsRowOf, section_named, row_section, ip_section, rela_section}
 use Rattle.orc_output.specs.OrcOutput.{CanHaveOrc, IsOther, ip_number, orc_sections, with_orc_object}
-use Rattle.orc_output.proofs.Behind.{All-each, length-each, position-behind, slice_get-behind, slice_get-each, slice_get-front}
+use Rattle.orc_output.proofs.Extended.{body_new, found_new, relocs_new, stays}
 use Rattle.orc_output.proofs.Known.{Known}
 use Rattle.orc_output.proofs.Slots.{relocs_back}
 
--- the old sections in the result, and the new ones
-abbrev olds : Elf → List PlacedRow → List SectionEntry
-olds o rows = map (old_section (input_of_object o) (length o.sections + 3) (orc_sections o rows)) (enumerate_from 0 o.sections)
-
-abbrev news : Elf → List PlacedRow → List SectionEntry
-news o rows = new_sections (end_of (length o.bytes) (all_names (input_of_object o) (orc_sections o rows) ∷ [])) (orc_sections o rows)
-
-length-olds : (o : Elf) (rows : List PlacedRow) → length (olds o rows) ≡ length o.sections
-length-olds o rows = length-each (old_section (input_of_object o) (length o.sections + 3) (orc_sections o rows)) 0 o.sections
-
--- an old section keeps its name
-old-name : (i : Input) (count : ℕ) (new : List NewEntry) (k : ℕ) (s : SectionEntry) → (old_section i count new (k, s)).name ≡ s.name
-old-name i count new k s = go (k == 0) (k == i.name_table)
-  where
-    go : (x y : Bool)
-        → (cond x (record s { size = long_count count }) (cond y (record s { offset = names_place i; size = length (all_names i new); body = all_names i new }) s)).name
-        ≡ s.name
-    go true y = refl
-    go false true = refl
-    go false false = refl
-
-differs : (xs ys : List ℕ) → xs ≢ ys → bytes_eq xs ys ≡ false
-differs xs ys apart = elim (cases_Bool (bytes_eq xs ys)) [
-  | inl same ↦ absurd (apart ((bytes_eq-Decides xs ys).0 same))
-  | inr other ↦ other
-]
-
--- none of them has the name
-none-named : (o : Elf) (rows : List PlacedRow) (name : List ℕ) → All (λ s. s.name ≢ name) o.sections
-    → All (λ s. bytes_eq s.name name ≡ false) (olds o rows)
-none-named o rows name none =
-    All-each (λ (s : SectionEntry). s.name ≢ name) (λ (s : SectionEntry). bytes_eq s.name name ≡ false)
-    (old_section (input_of_object o) (length o.sections + 3) (orc_sections o rows)) 0 o.sections
-    (λ k s other. differs _ name (λ e. other (sym (old-name (input_of_object o) (length o.sections + 3) (orc_sections o rows) k s) ∙ e))) none
-
--- the section with a name that the old ones have not is a new one
-found-new : (o : Elf) (rows : List PlacedRow) (name : List ℕ) (k : ℕ) → All (λ s. s.name ≢ name) o.sections
-    → position_or_len (λ s. bytes_eq s.name name) (news o rows) ≡ k → k < 3
-    → section_named (with_orc_object o rows) name ≡ Some (length o.sections + k)
-found-new o rows name k none at inside =
-    position-behind (λ (s : SectionEntry). bytes_eq s.name name) (olds o rows) (news o rows) k (none-named o rows name none) at inside
-    ∙ ap (λ (n : ℕ). Some (n + k)) (length-olds o rows)
-
-body-new : (o : Elf) (rows : List PlacedRow) (name : List ℕ) (k : ℕ) (body : List ℕ) → section_named (with_orc_object o rows) name ≡ Some (length o.sections + k)
-    → option_map (λ (s : SectionEntry). s.body) (slice_get (news o rows) k) ≡ Some body
-    → body_named (with_orc_object o rows) name ≡ Some body
-body-new o rows name k body named is =
-    let l = length-olds o rows in
-    ap (option_and_then (λ i. option_map (λ (s : SectionEntry). s.body) (slice_get (with_orc_object o rows).sections i))) named
-    ∙ ap (option_map (λ (s : SectionEntry). s.body)) (slice_get-behind (olds o rows) (news o rows) (length o.sections + k) k (omega arith))
-    ∙ is
-
-relocs-new : (o : Elf) (rows : List PlacedRow) → relocs_with o (orc_sections o rows) (ip_number o) ≡ relocs_in (rela_section (section_symbol_of o) rows)
-relocs-new o rows =
+relocs_of_ip : (o : Elf) (rows : List PlacedRow) → relocs_with o (orc_sections o rows) (ip_number o) ≡ relocs_in (rela_section (section_symbol_of o) rows)
+relocs_of_ip o rows =
     let same : eqb (ip_number o) (ip_number o) ≡ true = eq-eqb (ip_number o) (ip_number o) refl in
     rw same refl
-
--- an old text section is as it was
-text-kind : (s : SectionEntry) → is_text s ≡ true → s.kind ≡ SHT_PROGBITS
-text-kind s h = eqb-true s.kind SHT_PROGBITS (and_parts _ _ h).0
-
-stays : (o : Elf) (rows : List PlacedRow) → Known o → (k : ℕ) (s : SectionEntry) → slice_get o.sections k ≡ Some s → is_text s ≡ true
-    → slice_get (with_orc_object o rows).sections k ≡ Some s
-stays o rows known k s at text =
-    let kind = text-kind s text in
-    let inside : k < length o.sections = slice_get_within o.sections k s at in
-    let l = length-olds o rows in
-    let is : get_or o.sections k no_section ≡ s = get_or_from_slice_get o.sections k s no_section at in
-    let kept : (get_or o.sections k no_section).kind ≡ SHT_PROGBITS = ap (λ (x : SectionEntry). x.kind) is ∙ kind in
-    let first : (k == 0) ≡ false = ne_eqb k 0 (λ e. let z = ap (λ (n : ℕ). (get_or o.sections n no_section).kind) e in let null = known.first_kind in omega arith) in
-    let table : (k == o.name_table) ≡ false = ne_eqb k o.name_table (λ e. let z = ap (λ (n : ℕ). (get_or o.sections n no_section).kind) e in let strings = known.table_kind in omega arith) in
-    let f = old_section (input_of_object o) (length o.sections + 3) (orc_sections o rows) in
-    let zero : 0 + k ≡ k = omega arith in
-    slice_get-front (olds o rows) (news o rows) k (omega arith)
-    ∙ slice_get-each f 0 o.sections k
-    ∙ ap (λ (n : ℕ). option_map (λ x. f (n, x)) (slice_get o.sections k)) zero
-    ∙ ap (option_map (λ x. f (k, x))) at
-    ∙ rw (first, table) refl
 
 pub held : (o : Elf) (rows : List PlacedRow) → Known o → CanHaveOrc o rows → HoldsOrc (with_orc_object o rows) rows
 held o rows known can =
     let few : length rows < 2 ^ 32 = (let r = can.few_rows in omega arith) in
+    let new : List NewEntry = orc_sections o rows in
     let no_table = All-weaker IsOther (λ s. s.name ≢ codes ".orc_unwind") (λ s h. h.table) o.sections can.none in
     let no_ip = All-weaker IsOther (λ s. s.name ≢ codes ".orc_unwind_ip") (λ s h. h.ip) o.sections can.none in
-    let table : section_named (with_orc_object o rows) (codes ".orc_unwind") ≡ Some (length o.sections + 0) = found-new o rows (codes ".orc_unwind") 0 no_table refl (omega arith) in
-    let ip : section_named (with_orc_object o rows) (codes ".orc_unwind_ip") ≡ Some (length o.sections + 1) = found-new o rows (codes ".orc_unwind_ip") 1 no_ip refl (omega arith) in
-    let all : List (List Reloc) = (with_orc_object o rows).relocs in
-    let read : slice_get all (ip_number o) ≡ Some (relocs_with o (orc_sections o rows) (ip_number o)) =
-    slice_get_read all (length o.sections + 3) (ip_number o) _
-    (sym (length-map-range_with_len (relocs_with o (orc_sections o rows)) 0 (length o.sections + 3)))
-    (omega arith)
-    (sym (get_or-map-range_with_len (relocs_with o (orc_sections o rows)) 0 (length o.sections + 3) (ip_number o) (ip_number o) _ (omega arith) (omega arith))) in
+    let table : section_named (with_orc_object o rows) (codes ".orc_unwind") ≡ Some (length o.sections + 0) = found_new o new (codes ".orc_unwind") 0 no_table refl (omega arith) in
+    let ip : section_named (with_orc_object o rows) (codes ".orc_unwind_ip") ≡ Some (ip_number o) = found_new o new (codes ".orc_unwind_ip") 1 no_ip refl (omega arith) in
     record {
-      table = body-new o rows (codes ".orc_unwind") 0 (row_section rows) table refl;
-      ip = body-new o rows (codes ".orc_unwind_ip") 1 (ip_section rows) ip refl;
-      relocs = ap (option_and_then (λ i. slice_get all i)) ip
-          ∙ read
-          ∙ ap (λ (rs : List Reloc). Some rs) (relocs-new o rows ∙ relocs_back o rows few known.few_symbols can.each);
+      table = body_new o new (codes ".orc_unwind") 0 (row_section rows) table refl;
+      ip = body_new o new (codes ".orc_unwind_ip") 1 (ip_section rows) ip refl;
+      relocs = relocs_new o new (codes ".orc_unwind_ip") 1 ip (omega arith)
+          ∙ ap (λ (rs : List Reloc). Some rs) (relocs_of_ip o rows ∙ relocs_back o rows few known.few_symbols can.each);
       each = All-weaker (IsRowOf o) (IsRowOf (with_orc_object o rows)) (λ placed is. record {
         section = is.section;
-        at = stays o rows known placed.place.sec is.section is.at is.text;
+        at = stays o new known placed.place.sec is.section is.at is.text;
         text = is.text;
         symbol = is.symbol;
         inside = is.inside;

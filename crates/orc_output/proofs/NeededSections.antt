@@ -31,7 +31,7 @@ pub unnamed-is : (o : Elf) (marks : List Bool) → unnamed o marks ≡ filter (i
 unfolding unnamed
 unnamed-is o marks = refl
 
-none_is : (f : Option ℕ) → is_none f ≡ true → f ≡ None
+pub none_is : (f : Option ℕ) → is_none f ≡ true → f ≡ None
 none_is None h = refl
 none_is (Some k) h = absurd (false≢true h)
 
@@ -78,12 +78,12 @@ pub record IsNeeded (o : Elf) (rows : List PlacedRow) (sec : ℕ) : Type 0 where
   pub row : has_row rows sec ≡ true
   pub free : section_symbol_of o sec ≡ None
 
-in_range : (n : ℕ) → All (λ k. k < n) (range_with_len 0 n)
+pub in_range : (n : ℕ) → All (λ k. k < n) (range_with_len 0 n)
 in_range n i d inside =
     let within : i < n = subst (λ m. i < m) (length-range_with_len 0 n) inside in
     subst (λ k. k < n) (sym (get_or-range_with_len 0 n i d within)) (omega arith)
 
-rising_range : (n : ℕ) → AllPairs (λ a b. a < b) (range_with_len 0 n)
+pub rising_range : (n : ℕ) → AllPairs (λ a b. a < b) (range_with_len 0 n)
 rising_range n i j d lt inside =
     let within : j < n = subst (λ m. j < m) (length-range_with_len 0 n) inside in
     omega (arith, get_or-range_with_len 0 n i d (omega arith), get_or-range_with_len 0 n j d within)
@@ -111,7 +111,7 @@ few_needed o rows =
     omega arith
 
 -- a number that passes stands among those that do
-passing : (p : ℕ → Bool) (xs : List ℕ) (k : ℕ) → Contains xs k → p k ≡ true → Contains (filter p xs) k
+pub passing : (p : ℕ → Bool) (xs : List ℕ) (k : ℕ) → Contains xs k → p k ≡ true → Contains (filter p xs) k
 passing p [] k at passes = absurd (omega (arith, at.1))
 passing p (x ∷ xs) k (zero, inside, is) passes =
     let here : p x ≡ true = ap p is ∙ passes in
@@ -123,9 +123,6 @@ passing p (x ∷ xs) k (suc n, inside, is) passes =
       | false ↦ rest
     ]
 
-none-is : (f : Option ℕ) → f ≡ None → is_none f ≡ true
-none-is f e = rw e refl
-
 -- a section with a row and no symbol is among them
 pub needs_one : (o : Elf) (rows : List PlacedRow) (sec : ℕ) → sec < length o.sections → has_row rows sec ≡ true → section_symbol_of o sec ≡ None
     → Contains (needed_symbols o rows) sec
@@ -133,7 +130,7 @@ unfolding needed_symbols
 needs_one o rows sec inside row free =
     passing (is_needed o rows) (range_with_len 0 (length o.sections)) sec
     (sec, subst (λ n. sec < n) (sym (length-range_with_len 0 (length o.sections))) inside, get_or-range_with_len 0 (length o.sections) sec sec inside ∙ omega arith)
-    (and_from _ _ row (none-is (section_symbol_of o sec) free))
+    (and_from _ _ row (ap (λ (f : Option ℕ). is_none f) free))
 
 -- a text section in which a symbol is defined
 pub record IsNamedText (o : Elf) (sec : ℕ) : Type 0 where

@@ -17,7 +17,6 @@ use Rattle.elf_write.specs.SymbolLayout.{locals}
 use Rattle.elf_write.specs.SymbolObject.{object_with_symbols, section_with, symbol_for, symbols_with}
 use Rattle.elf_write.proofs.Known.{Lies, lies, section_is}
 use Rattle.elf_write.proofs.SymbolOutput.{renumbered_below}
-use Rattle.orc_output.specs.OrcOutput.{IsOther}
 use Rattle.orc_output.proofs.Insertable.{text_kind}
 
 -- Sections.
@@ -43,14 +42,8 @@ pub sections_stay : (o : Elf) (secs : List ℕ) → length (object_with_symbols 
 sections_stay o [] = refl
 sections_stay o (sec ∷ secs) = length-map o.sections (section_with o (sec ∷ secs))
 
-name_stays : (o : Elf) (secs : List ℕ) (s : SectionEntry) → (section_with o secs s).name ≡ s.name
+pub name_stays : (o : Elf) (secs : List ℕ) (s : SectionEntry) → (section_with o secs s).name ≡ s.name
 name_stays o secs s = grind (arith, nat_tests)
-
--- and a section that is none of the ORC sections is none
-pub other_stays : (o : Elf) (secs : List ℕ) (s : SectionEntry) → IsOther s → IsOther (section_with o secs s)
-other_stays o secs s is =
-    let e = name_stays o secs s in
-    record { table = λ z. is.table (sym e ∙ z); ip = λ z. is.ip (sym e ∙ z); rela = λ z. is.rela (sym e ∙ z) }
 
 -- a text section is no longer than the file
 text_within : (b : List ℕ) (k : ℕ) (s : SectionEntry) → IsWellFormed b → slice_get (elf_of b).sections k ≡ Some s → is_text s ≡ true → s.size ≤ length b

@@ -3,11 +3,9 @@
 use Rattle.std.proofs.Common.{◌≡◌, ℕ, zero, suc, ◌+◌, ◌-◌, ◌*◌, ◌^◌, ◌<◌, ◌≤◌, Bool, true, false, cond, List, [], ◌∷◌, ◌++◌, map, length, get_or, Ok, Err, Result, Some, refl, sym, ◌∙◌, ap, subst, inl, inr, length-append, length-take, length-drop, arith}
 use Rattle.std.specs.Prelude.{All, filter, flat_map, slice_get, slice_range}
 use Rattle.std.specs.List.{range_with_len, sum_by}
-use Rattle.std.proofs.lemmas.Bool.{and_parts, eqb-true}
 use Rattle.std.proofs.lemmas.List.{length-map}
 use Rattle.std.proofs.lemmas.List.Elements.{All-append, All-cons, All-filter, All-head, All-map, All-nil, All-tail, All-weaker, filter_passes}
 use Rattle.std.proofs.lemmas.List.Sums.{sum_by-cons}
-use Rattle.std.proofs.lemmas.List.FromFn.{get_or-range_with_len, length-range_with_len}
 use Rattle.std.proofs.lemmas.Option.{slice_get-get_or}
 use Rattle.ot_base.specs.declared.place.Place.{Place}
 use Rattle.operation_defs.specs.declared.insn.Insn.{Insn}
@@ -26,6 +24,8 @@ use Rattle.x86_text.specs.Code.{Body, code_from, code_of, with_rest}
 use Rattle.alternatives.specs.declared.texts.SectionText.{SectionText}
 use Rattle.flow_defs.specs.Code.{body_of, text_numbers, texts_of}
 use Rattle.flow_defs.specs.Coded.{Coded}
+use Rattle.orc_output.proofs.Insertable.{text_kind}
+use Rattle.orc_output.proofs.NeededSections.{in_range}
 use Rattle.site_lists.specs.Listed.{Listed}
 use Rattle.site_lists.specs.Sites.{AreFew, AreSitesIn, IsSiteIn, PlacedCode, can_have_symbol, is_call_site, is_retpoline_site, is_return_site, nameable_code, placed_code, places_of, sites_of}
 
@@ -65,11 +65,6 @@ record IsTextOf (o : Coded) (t : SectionText) : Type 0 where
   text : is_text (section_at o.elf t.sec) ≡ true
   body : t.text.bytes ≡ (section_at o.elf t.sec).body
 
-in_range : (n : ℕ) → All (λ k. k < n) (range_with_len 0 n)
-in_range n i d inside =
-    let within : i < n = subst (λ m. i < m) (length-range_with_len 0 n) inside in
-    subst (λ k. k < n) (sym (get_or-range_with_len 0 n i d within)) (omega arith)
-
 numbers_are : (o : Coded) → All (λ i. IsTextOf o (record { sec = i; text = body_of o i })) (text_numbers o.elf)
 numbers_are o k d inside = record {
   at = All-filter (λ i. is_text (section_at o.elf i)) (λ i. i < length o.elf.sections) (range_with_len 0 (length o.elf.sections)) (in_range (length o.elf.sections)) k d inside;
@@ -82,9 +77,6 @@ unfolding texts_of
 texts_are o = All-map (IsTextOf o) (λ i. record { sec = i; text = body_of o i }) (text_numbers o.elf) (numbers_are o)
 
 -- A text section's body has at most as many bytes as its header says.
-
-text_kind : (s : SectionEntry) → is_text s ≡ true → s.kind ≡ SHT_PROGBITS
-text_kind s text = eqb-true s.kind SHT_PROGBITS (and_parts _ _ text).0
 
 body_within : (o : Elf) (i : ℕ) → IsObject o.bytes o → i < length o.sections → is_text (section_at o i) ≡ true → length (section_at o i).body ≤ (section_at o i).size
 body_within o i ok inside text =

@@ -1,8 +1,8 @@
 -- The sections that need a section symbol.
-use Rattle.std.proofs.Common.{◌≡◌, ℕ, zero, suc, ◌<◌, Bool, true, false, cond, List, [], ◌∷◌, length, Option, Some, None, refl, sym, ap, subst, ◌∙◌, inl, inr, arith}
+use Rattle.std.proofs.Common.{◌≡◌, ℕ, ◌<◌, Bool, true, false, List, length, Option, Some, None, refl, sym, ap, subst, ◌∙◌, inl, inr, arith}
 use Rattle.std.specs.Prelude.{◌==◌, ◌&&◌, ◌||◌, All, AllPairs, Contains, filter, is_none, slice_get, slice_index_or}
 use Rattle.std.specs.List.{range_with_len}
-use Rattle.std.proofs.lemmas.Bool.{and_from, and_parts, eqb-true, false≢true, or_cases}
+use Rattle.std.proofs.lemmas.Bool.{and_from, and_parts, eqb-true, or_cases}
 use Rattle.std.proofs.lemmas.List.Elements.{All-filter, filter_passes}
 use Rattle.std.proofs.lemmas.List.Folds.{Any-from_list_any}
 use Rattle.std.proofs.lemmas.List.FromFn.{get_or-range_with_len, length-range_with_len}
@@ -13,7 +13,7 @@ use Rattle.elf_objects.specs.Elf.{Elf, SectionEntry}
 use Rattle.site_lists.specs.Listed.{Listed}
 use Rattle.site_lists.specs.Sites.{can_have_symbol}
 use Rattle.orc_output.specs.Needed.{unnamed}
-use Rattle.orc_output.proofs.NeededSections.{agree_below, is_unnamed, unnamed-is}
+use Rattle.orc_output.proofs.NeededSections.{agree_below, in_range, is_unnamed, none_is, passing, rising_range, unnamed-is}
 use Rattle.site_lists.specs.Needed.{has_place, is_listed, needed_symbols}
 use Rattle.site_lists.specs.Sites.{AreSitesIn, IsSiteIn}
 
@@ -33,25 +33,11 @@ unnamed_needed o lists marks same =
     ∙ agree_below (is_unnamed o marks) (is_needed o lists) (length o.sections) (λ sec h. ap (λ (b : Bool). b && is_none (section_symbol_of o sec)) (same sec h))
     ∙ sym (needed-is o lists)
 
-none_is : (f : Option ℕ) → is_none f ≡ true → f ≡ None
-none_is None h = refl
-none_is (Some k) h = absurd (false≢true h)
-
 -- a section that is among them
 pub record IsNeeded (o : Elf) (lists : Listed) (sec : ℕ) : Type 0 where
   pub exists : sec < length o.sections
   pub named : is_listed lists sec ≡ true
   pub free : section_symbol_of o sec ≡ None
-
-in_range : (n : ℕ) → All (λ k. k < n) (range_with_len 0 n)
-in_range n i d inside =
-    let within : i < n = subst (λ m. i < m) (length-range_with_len 0 n) inside in
-    subst (λ k. k < n) (sym (get_or-range_with_len 0 n i d within)) (omega arith)
-
-rising_range : (n : ℕ) → AllPairs (λ a b. a < b) (range_with_len 0 n)
-rising_range n i j d lt inside =
-    let within : j < n = subst (λ m. j < m) (length-range_with_len 0 n) inside in
-    omega (arith, get_or-range_with_len 0 n i d (omega arith), get_or-range_with_len 0 n j d within)
 
 pub each_needed : (o : Elf) (lists : Listed) → All (IsNeeded o lists) (needed_symbols o lists)
 unfolding needed_symbols
@@ -68,22 +54,6 @@ pub needed_rise : (o : Elf) (lists : Listed) → AllPairs (λ a b. a < b) (neede
 unfolding needed_symbols
 needed_rise o lists = AllPairs-filter (λ a b. a < b) (is_needed o lists) (range_with_len 0 (length o.sections)) (rising_range (length o.sections))
 
--- a number that passes stands among those that do
-passing : (p : ℕ → Bool) (xs : List ℕ) (k : ℕ) → Contains xs k → p k ≡ true → Contains (filter p xs) k
-passing p [] k at passes = absurd (omega (arith, at.1))
-passing p (x ∷ xs) k (zero, inside, is) passes =
-    let here : p x ≡ true = ap p is ∙ passes in
-    rw here (0, (omega arith), is)
-passing p (x ∷ xs) k (suc n, inside, is) passes =
-    let rest : Contains (filter p xs) k = passing p xs k (n, (omega arith), is) passes in
-    elim (p x) as (λ b. Contains (cond b (x ∷ filter p xs) (filter p xs)) k) [
-      | true ↦ (suc rest.0, (omega (arith, rest.1)), rest.2)
-      | false ↦ rest
-    ]
-
-none-is : (f : Option ℕ) → f ≡ None → is_none f ≡ true
-none-is f e = rw e refl
-
 -- a section with a place and no symbol is among them
 pub needs_one : (o : Elf) (lists : Listed) (sec : ℕ) → sec < length o.sections → is_listed lists sec ≡ true → section_symbol_of o sec ≡ None
     → Contains (needed_symbols o lists) sec
@@ -91,7 +61,7 @@ unfolding needed_symbols
 needs_one o lists sec inside named free =
     passing (is_needed o lists) (range_with_len 0 (length o.sections)) sec
     (sec, subst (λ n. sec < n) (sym (length-range_with_len 0 (length o.sections))) inside, get_or-range_with_len 0 (length o.sections) sec sec inside ∙ omega arith)
-    (and_from _ _ named (none-is (section_symbol_of o sec) free))
+    (and_from _ _ named (ap (λ (f : Option ℕ). is_none f) free))
 
 -- a text section that relocations can name
 pub record IsNameableText (o : Elf) (sec : ℕ) : Type 0 where

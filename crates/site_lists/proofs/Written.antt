@@ -1,21 +1,16 @@
 -- The object with the section symbols may have the site lists, and what comes of it.
-use Rattle.std.proofs.Common.{◌≡◌, ℕ, ◌≤◌, ◌<◌, List, [], ◌∷◌, length, get_or, true, refl, sym, ap, subst, ◌∙◌, arith}
-use Rattle.std.specs.Prelude.{◌==◌, ◌||◌, All}
+use Rattle.std.proofs.Common.{◌≡◌, ℕ, ◌<◌, List, length, get_or, true, refl, sym, ap, subst, ◌∙◌, arith}
+use Rattle.std.specs.Prelude.{◌==◌, ◌||◌}
 use Rattle.std.proofs.lemmas.Bool.{eq-eqb, or_left, or_right}
-use Rattle.std.proofs.lemmas.Bool.Decides.{nat_tests}
-use Rattle.std.proofs.lemmas.List.Elements.{All-map, All-nil, All-weaker}
 use Rattle.std.proofs.lemmas.List.Folds.{list_any_at}
 use Rattle.std.proofs.lemmas.Option.{slice_get_within}
 use Rattle.ot_base.specs.declared.place.Place.{Place}
-use Rattle.elf_objects.specs.Elf.{Elf, SectionEntry}
+use Rattle.elf_objects.specs.Elf.{Elf}
 use Rattle.elf_objects.specs.Object.{IsObject}
-use Rattle.elf_write.specs.Added.{CanAdd, IsAddable}
-use Rattle.elf_write.specs.Layout.{NewEntry}
 use Rattle.elf_write.specs.Object.{appended_to}
 use Rattle.elf_write.specs.AddedSymbols.{IsAdded, NamesSame}
-use Rattle.elf_write.specs.SymbolObject.{object_with_symbols, section_with}
-use Rattle.elf_write.proofs.Same.{added, same_object}
-use Rattle.orc_output.proofs.FileBound.{bytes-inserted}
+use Rattle.elf_write.proofs.Same.{added}
+use Rattle.orc_output.proofs.Inserted.{inserted, names_stay, short_bytes}
 use Rattle.orc_output.proofs.Known.{known}
 use Rattle.orc_output.proofs.RowPlaces.{has_symbol, sections_stay, size_within, text_stays}
 use Rattle.site_lists.specs.Listed.{Listed}
@@ -29,27 +24,10 @@ use Rattle.site_lists.proofs.OutputHeld.{held}
 use Rattle.site_lists.proofs.Insertable.{can_insert, inserted_bound}
 use Rattle.site_lists.proofs.NeededSections.{needs_one}
 
-short_bytes : (o : Elf) (lists : Listed) → IsFit o lists → length (with_symbols o lists).bytes ≤ 268435456
-short_bytes o lists fit =
-    let bound = inserted_bound o lists fit.object fit.can fit.few in
-    let same = ap length (bytes-inserted o (needed_symbols o lists)) in
-    omega arith
-
 -- the symbols keep what they are
 names_same : (o : Elf) (lists : Listed) → IsFit o lists → NamesSame o (needed_symbols o lists) (with_symbols o lists)
 names_same o lists fit =
-    let secs : List ℕ = needed_symbols o lists in
-    let none : List NewEntry = [] in
-    let short = short_bytes o lists fit in
-    let sections = sections_stay o secs in
-    let few = fit.can.few in
-    let can : CanAdd (object_with_symbols o secs) none = record {
-      few = omega arith;
-      size = omega arith;
-      each = All-nil (IsAddable (object_with_symbols o secs) none);
-      apart = λ i j d lt inside. absurd (omega arith);
-    } in
-    (added o.bytes o secs none fit.bytes fit.object (can_insert o lists fit.object fit.can fit.few) can).same
+    (inserted o (needed_symbols o lists) fit.bytes fit.object (can_insert o lists fit.object fit.can fit.few) (inserted_bound o lists fit.object fit.can fit.few) (let few = fit.can.few in omega arith)).same
 
 -- each place can be named
 site_of : (o : Elf) (lists : Listed) → IsFit o lists → (place : Place) → is_listed lists place.sec ≡ true → IsSiteIn o place → IsSite (with_symbols o lists) place
@@ -71,19 +49,6 @@ site_of o lists fit place named is =
 has_own : (places : List Place) (k : ℕ) (d : Place) → k < length places → has_place places (get_or places k d).sec ≡ true
 has_own places k d inside = list_any_at (λ (place : Place). place.sec == (get_or places k d).sec) places k d inside (eq-eqb _ _ refl)
 
-name_stays : (o : Elf) (secs : List ℕ) (s : SectionEntry) → (section_with o secs s).name ≡ s.name
-name_stays o secs s = grind (arith, nat_tests)
-
-other_stays : (o : Elf) (secs : List ℕ) (s : SectionEntry) → IsOther s → IsOther (section_with o secs s)
-other_stays o secs s is =
-    let e = name_stays o secs s in
-    record { list = λ which z. is.list which (sym e ∙ z); rela = λ which z. is.rela which (sym e ∙ z) }
-
-others : (o : Elf) (secs : List ℕ) → All IsOther o.sections → All IsOther (object_with_symbols o secs).sections
-others o [] all = all
-others o (sec ∷ secs) all =
-    All-map IsOther (section_with o (sec ∷ secs)) o.sections (All-weaker IsOther (λ s. IsOther (section_with o (sec ∷ secs) s)) (λ s is. other_stays o (sec ∷ secs) s is) o.sections all)
-
 pub can_have_lists : (o : Elf) (lists : Listed) → IsFit o lists → CanHaveLists (with_symbols o lists) lists
 can_have_lists o lists fit =
     let secs : List ℕ = needed_symbols o lists in
@@ -95,22 +60,11 @@ can_have_lists o lists fit =
         returns = λ k d inside. site_of o lists fit _ (or_left _ _ (or_right (has_place lists.retpoline (get_or lists.returns k d).sec) _ (has_own lists.returns k d inside))) (fit.can.each.returns k d inside);
         calls = λ k d inside. site_of o lists fit _ (or_right (has_place lists.retpoline (get_or lists.calls k d).sec || has_place lists.returns (get_or lists.calls k d).sec) _ (has_own lists.calls k d inside)) (fit.can.each.calls k d inside);
       };
-      none = others o secs fit.can.none;
+      none = names_stay IsOther (λ s t e is. record { list = λ which z. is.list which (sym e ∙ z); rela = λ which z. is.rela which (sym e ∙ z) }) o secs fit.can.none;
       few = omega arith;
-      short = short_bytes o lists fit;
+      short = short_bytes o secs (inserted_bound o lists fit.object fit.can fit.few);
       few_places = fit.can.few_places;
     }
-
--- where no section needs a symbol it is the object itself
-pub nothing_needed : (o : Elf) (lists : Listed) → [] ≡ needed_symbols o lists → o ≡ with_symbols o lists
-nothing_needed o lists e = ap (object_with_symbols o) e
-
--- What is read of the file with the section symbols is the object with them.
-pub read_is : (o : Elf) (lists : Listed) (secs file bytes : List ℕ) (p : Elf) → secs ≡ needed_symbols o lists → IsObject file (object_with_symbols o secs)
-    → bytes ≡ file → IsObject bytes p → p ≡ with_symbols o lists
-read_is o lists secs file bytes p is made same read =
-    same_object bytes p (with_symbols o lists) read
-    (subst (λ (b : List ℕ). IsObject b (with_symbols o lists)) (sym same) (subst (λ (xs : List ℕ). IsObject file (object_with_symbols o xs)) is made))
 
 -- With the site lists it has them.
 pub has_sites : (o : Elf) (lists : Listed) (b : List ℕ) (p : Elf) (file : List ℕ) → IsFit o lists → IsObject b p → p ≡ with_symbols o lists

@@ -1,5 +1,4 @@
-use Rattle.std.proofs.Common.{◌≡◌, ℕ, List, [], ◌∷◌, length, refl, sym, subst, ◌∙◌, arith}
-use Rattle.std.proofs.lemmas.Bool.{eqb-true}
+use Rattle.std.proofs.Common.{◌≡◌, sym, subst}
 use Rattle.std.proofs.lemmas.Result.{IfOk-weaker}
 use Rattle.elf_objects.specs.Elf.{Elf}
 use Rattle.elf_write.specs.SymbolObject.{CanInsert}
@@ -9,25 +8,20 @@ use Rattle.site_lists.specs.SiteOutput.{CanHaveLists, site_sections}
 use Rattle.site_lists.specs.Tables.{HasSites}
 use Rattle.site_lists.specs.Listed.{listed}
 use Rattle.site_lists.proofs.Insertable.{all_free, can_insert}
-use Rattle.site_lists.proofs.Written.{can_have_lists, has_sites, nothing_needed, read_is}
+use Rattle.orc_output.proofs.Inserted.{nothing_needed, read_is}
+use Rattle.site_lists.proofs.Written.{can_have_lists, has_sites}
 use Rattle.site_lists.proofs.tables.write_sites.Goals as goal
-
-no_items : (xs : List ℕ) → length xs ≡ 0 → [] ≡ xs
-no_items [] e = refl
-no_items (x ∷ xs) e = absurd (omega arith)
 
 pub with_lists-requires : goal.with_lists-requires
 with_lists-requires c =
     let o : Elf = c.args.object.now in
-    let none = no_items c.args.secs.now (eqb-true (length c.args.secs.now) 0 (sym c.if-is_empty.ensures)) in
-    subst (λ (x : Elf). CanHaveLists x (listed c.args.lists.now)) (sym (nothing_needed o (listed c.args.lists.now) (none ∙ c.requires.needed))) (can_have_lists o (listed c.args.lists.now) c.requires.fit)
+    subst (λ (x : Elf). CanHaveLists x (listed c.args.lists.now)) (sym (nothing_needed o c.args.secs.now _ c.if-is_empty.ensures c.requires.needed)) (can_have_lists o (listed c.args.lists.now) c.requires.fit)
 
 pub returns-then-is_empty : goal.returns-then-is_empty
 returns-then-is_empty c =
     let o : Elf = c.args.object.now in
-    let none = no_items c.args.secs.now (eqb-true (length c.args.secs.now) 0 (sym c.if-is_empty.ensures)) in
     IfOk-weaker c.with_lists.result (λ file. file.items ≡ appended_to o (site_sections o (listed c.args.lists.now))) (λ file. HasSites o (listed c.args.lists.now) file.items)
-    (λ file e. has_sites o (listed c.args.lists.now) o.bytes o file.items c.requires.fit c.requires.fit.object (nothing_needed o (listed c.args.lists.now) (none ∙ c.requires.needed)) e)
+    (λ file e. has_sites o (listed c.args.lists.now) o.bytes o file.items c.requires.fit c.requires.fit.object (nothing_needed o c.args.secs.now _ c.if-is_empty.ensures c.requires.needed) e)
     c.with_lists.ensures.layout
 
 pub insert_symbols-requires-clause-can : goal.insert_symbols-requires-clause-can
@@ -41,13 +35,13 @@ insert_symbols-requires-clause-free c = subst (AreFree c.args.object.now) (sym c
 pub with_lists-requires-2 : goal.with_lists-requires-2
 with_lists-requires-2 c =
     let o : Elf = c.args.object.now in
-    let is = read_is o (listed c.args.lists.now) c.args.secs.now c.in_ok-file.file.items c.deref.result.now c.in_ok-named.named c.requires.needed c.in_ok-file.ensures.object c.deref.ensures.value c.in_ok-named.ensures in
+    let is = read_is o _ c.args.secs.now c.in_ok-file.file.items c.deref.result.now c.in_ok-named.named c.requires.needed c.in_ok-file.ensures.object c.deref.ensures.value c.in_ok-named.ensures in
     subst (λ (x : Elf). CanHaveLists x (listed c.args.lists.now)) (sym is) (can_have_lists o (listed c.args.lists.now) c.requires.fit)
 
 pub returns : goal.returns
 returns c =
     let o : Elf = c.args.object.now in
-    let is = read_is o (listed c.args.lists.now) c.args.secs.now c.in_ok-file.file.items c.deref.result.now c.in_ok-named.named c.requires.needed c.in_ok-file.ensures.object c.deref.ensures.value c.in_ok-named.ensures in
+    let is = read_is o _ c.args.secs.now c.in_ok-file.file.items c.deref.result.now c.in_ok-named.named c.requires.needed c.in_ok-file.ensures.object c.deref.ensures.value c.in_ok-named.ensures in
     IfOk-weaker c.with_lists-2.result (λ file. file.items ≡ appended_to c.in_ok-named.named (site_sections c.in_ok-named.named (listed c.args.lists.now))) (λ file. HasSites o (listed c.args.lists.now) file.items)
     (λ file e. has_sites o (listed c.args.lists.now) c.deref.result.now c.in_ok-named.named file.items c.requires.fit c.in_ok-named.ensures is e)
     c.with_lists-2.ensures.layout
