@@ -14,11 +14,11 @@ use Rattle.elf_write.specs.SymbolLayout.{index_table, symbols_inserted}
 use Rattle.elf_write.specs.SymbolObject.{CanInsert}
 use Rattle.elf_write.specs.Taken.{AreFree}
 use Rattle.orc_output.proofs.Known.{known}
-use Rattle.orc_output.specs.Needed.{needed_symbols}
+use Rattle.orc_output.specs.Needed.{has_row, needed_symbols}
 use Rattle.orc_output.specs.Tables.{IsRowIn, symbols_needed}
 use Rattle.orc_output.proofs.DefinedHomes.{has_numbers}
 use Rattle.orc_output.proofs.FileBound.{length-inserted}
-use Rattle.orc_output.proofs.NeededSections.{IsNamedText, IsNeeded, each_needed, needed_rise, section_of_row}
+use Rattle.orc_output.proofs.NeededSections.{IsNamedText, IsNameless, each_needed, needed_rise, section_of_row}
 
 pub text_kind : (s : SectionEntry) → is_text s ≡ true → s.kind ≡ SHT_PROGBITS
 text_kind s text = eqb-true s.kind SHT_PROGBITS (and_parts _ _ text).0
@@ -51,7 +51,7 @@ pub record HasRoom (o : Elf) (rows : List PlacedRow) : Type 0 where
 
 all_named : (o : Elf) (rows : List PlacedRow) → HasRoom o rows → All (IsNamedText o) (needed_symbols o rows)
 all_named o rows room =
-    All-weaker (IsNeeded o rows) (IsNamedText o) (λ sec is. section_of_row o rows sec room.each is.row) (needed_symbols o rows) (each_needed o rows)
+    All-weaker (IsNameless o (has_row rows)) (IsNamedText o) (λ sec is. section_of_row o rows sec room.each is.named) (needed_symbols o rows) (each_needed o rows)
 
 pub all_free : (o : Elf) (rows : List PlacedRow) → AreFree o (needed_symbols o rows)
 all_free o rows k d inside = (each_needed o rows k d inside).free
@@ -73,7 +73,7 @@ can_insert o rows room =
     record {
       rising = needed_rise o rows;
       some = All-weaker (IsNamedText o) (λ sec. 1 ≤ sec) (λ sec is. not_first o sec is.section room.object is.at is.text) secs (all_named o rows room);
-      exist = All-weaker (IsNeeded o rows) (λ sec. sec < length o.sections) (λ sec is. is.exists) secs (each_needed o rows);
+      exist = All-weaker (IsNameless o (has_row rows)) (λ sec. sec < length o.sections) (λ sec is. is.exists) secs (each_needed o rows);
       symbols = some_symbols o rows room;
       few = room.few;
       numbers = All-weaker (IsNamedText o) (λ sec. SHN_LORESERVE ≤ sec → IsSome (index_table o)) (λ sec is. has_numbers o.bytes o sec room.object is.named) secs (all_named o rows room);

@@ -1,11 +1,10 @@
 -- The sections that need a section symbol.
-use Rattle.std.proofs.Common.{◌≡◌, ℕ, zero, suc, ◌+◌, ◌<◌, ◌≤◌, Bool, true, false, cond, not, List, [], ◌∷◌, ◌++◌, length, Option, Some, None, refl, sym, ap, subst, ◌∙◌, arith}
+use Rattle.std.proofs.Common.{◌≡◌, ℕ, zero, suc, ◌+◌, ◌<◌, Bool, true, false, cond, List, [], ◌∷◌, ◌++◌, length, Option, Some, None, refl, sym, ap, subst, ◌∙◌, arith}
 use Rattle.std.specs.Prelude.{◌==◌, ◌&&◌, All, AllPairs, Contains, filter, is_none, slice_get, slice_index_or}
 use Rattle.std.specs.List.{range_with_len}
 use Rattle.std.proofs.lemmas.Bool.{and_from, and_parts, eqb-true, false≢true}
 use Rattle.std.proofs.lemmas.List.{append-nil, map-id}
 use Rattle.std.proofs.lemmas.List.Elements.{All-filter, filter_passes}
-use Rattle.std.proofs.lemmas.List.Filters.{length-filter_both}
 use Rattle.std.proofs.lemmas.List.Folds.{Any-from_list_any}
 use Rattle.std.proofs.lemmas.List.FromFn.{filter_of_map_range_with_len_more, get_or-range_with_len, length-range_with_len}
 use Rattle.std.proofs.lemmas.List.Kept.{AllPairs-filter}
@@ -15,11 +14,14 @@ use Rattle.elf_objects.specs.Elf.{Elf, SectionEntry}
 use Rattle.orc_output.specs.Needed.{has_row, needed_symbols, unnamed}
 use Rattle.orc_output.specs.Tables.{IsNamed, IsRowIn}
 
--- a section needs one
-abbrev pub is_needed : Elf → List PlacedRow → ℕ → Bool
-is_needed o rows sec = has_row rows sec && is_none (section_symbol_of o sec)
+-- a section is one of those named and has none
+abbrev pub is_nameless : Elf → (ℕ → Bool) → ℕ → Bool
+is_nameless o named sec = named sec && is_none (section_symbol_of o sec)
 
-pub needed-is : (o : Elf) (rows : List PlacedRow) → needed_symbols o rows ≡ filter (is_needed o rows) (range_with_len 0 (length o.sections))
+abbrev pub nameless : Elf → (ℕ → Bool) → List ℕ
+nameless o named = filter (is_nameless o named) (range_with_len 0 (length o.sections))
+
+pub needed-is : (o : Elf) (rows : List PlacedRow) → needed_symbols o rows ≡ nameless o (has_row rows)
 unfolding needed_symbols
 needed-is o rows = refl
 
@@ -31,7 +33,7 @@ pub unnamed-is : (o : Elf) (marks : List Bool) → unnamed o marks ≡ filter (i
 unfolding unnamed
 unnamed-is o marks = refl
 
-pub none_is : (f : Option ℕ) → is_none f ≡ true → f ≡ None
+none_is : (f : Option ℕ) → is_none f ≡ true → f ≡ None
 none_is None h = refl
 none_is (Some k) h = absurd (false≢true h)
 
@@ -64,18 +66,17 @@ agree_below p q (suc n) same =
     ∙ ap (λ (b : Bool). filter q (range_with_len 0 n) ++ cond b (n ∷ []) []) (same n (omega arith))
     ∙ sym (filter_next q n))
 
--- the sections that are marked where they have rows
-pub unnamed_needed : (o : Elf) (rows : List PlacedRow) (marks : List Bool) → ((sec : ℕ) → sec < length o.sections → slice_index_or marks sec false ≡ has_row rows sec)
-    → unnamed o marks ≡ needed_symbols o rows
-unnamed_needed o rows marks same =
+-- the sections that are marked where they are named
+pub unnamed_nameless : (o : Elf) (named : ℕ → Bool) (marks : List Bool) → ((sec : ℕ) → sec < length o.sections → slice_index_or marks sec false ≡ named sec)
+    → unnamed o marks ≡ nameless o named
+unnamed_nameless o named marks same =
     unnamed-is o marks
-    ∙ agree_below (is_unnamed o marks) (is_needed o rows) (length o.sections) (λ sec h. ap (λ (b : Bool). b && is_none (section_symbol_of o sec)) (same sec h))
-    ∙ sym (needed-is o rows)
+    ∙ agree_below (is_unnamed o marks) (is_nameless o named) (length o.sections) (λ sec h. ap (λ (b : Bool). b && is_none (section_symbol_of o sec)) (same sec h))
 
 -- a section that is among them
-pub record IsNeeded (o : Elf) (rows : List PlacedRow) (sec : ℕ) : Type 0 where
+pub record IsNameless (o : Elf) (test : ℕ → Bool) (sec : ℕ) : Type 0 where
   pub exists : sec < length o.sections
-  pub row : has_row rows sec ≡ true
+  pub named : test sec ≡ true
   pub free : section_symbol_of o sec ≡ None
 
 pub in_range : (n : ℕ) → All (λ k. k < n) (range_with_len 0 n)
@@ -83,35 +84,26 @@ in_range n i d inside =
     let within : i < n = subst (λ m. i < m) (length-range_with_len 0 n) inside in
     subst (λ k. k < n) (sym (get_or-range_with_len 0 n i d within)) (omega arith)
 
-pub rising_range : (n : ℕ) → AllPairs (λ a b. a < b) (range_with_len 0 n)
+rising_range : (n : ℕ) → AllPairs (λ a b. a < b) (range_with_len 0 n)
 rising_range n i j d lt inside =
     let within : j < n = subst (λ m. j < m) (length-range_with_len 0 n) inside in
     omega (arith, get_or-range_with_len 0 n i d (omega arith), get_or-range_with_len 0 n j d within)
 
-pub each_needed : (o : Elf) (rows : List PlacedRow) → All (IsNeeded o rows) (needed_symbols o rows)
-unfolding needed_symbols
-each_needed o rows k d inside =
+pub each_nameless : (o : Elf) (named : ℕ → Bool) → All (IsNameless o named) (nameless o named)
+each_nameless o named k d inside =
     let all : List ℕ = range_with_len 0 (length o.sections) in
-    let passes = and_parts _ _ (filter_passes (is_needed o rows) all k d inside) in
+    let passes = and_parts _ _ (filter_passes (is_nameless o named) all k d inside) in
     record {
-      exists = All-filter (is_needed o rows) (λ sec. sec < length o.sections) all (in_range (length o.sections)) k d inside;
-      row = passes.0;
+      exists = All-filter (is_nameless o named) (λ sec. sec < length o.sections) all (in_range (length o.sections)) k d inside;
+      named = passes.0;
       free = none_is _ passes.1;
     }
 
-pub needed_rise : (o : Elf) (rows : List PlacedRow) → AllPairs (λ a b. a < b) (needed_symbols o rows)
-unfolding needed_symbols
-needed_rise o rows = AllPairs-filter (λ a b. a < b) (is_needed o rows) (range_with_len 0 (length o.sections)) (rising_range (length o.sections))
-
-pub few_needed : (o : Elf) (rows : List PlacedRow) → length (needed_symbols o rows) ≤ length o.sections
-unfolding needed_symbols
-few_needed o rows =
-    let both = length-filter_both (is_needed o rows) (λ sec. not (is_needed o rows sec)) (λ sec. refl) (range_with_len 0 (length o.sections)) in
-    let all = length-range_with_len 0 (length o.sections) in
-    omega arith
+pub nameless_rise : (o : Elf) (named : ℕ → Bool) → AllPairs (λ a b. a < b) (nameless o named)
+nameless_rise o named = AllPairs-filter (λ a b. a < b) (is_nameless o named) (range_with_len 0 (length o.sections)) (rising_range (length o.sections))
 
 -- a number that passes stands among those that do
-pub passing : (p : ℕ → Bool) (xs : List ℕ) (k : ℕ) → Contains xs k → p k ≡ true → Contains (filter p xs) k
+passing : (p : ℕ → Bool) (xs : List ℕ) (k : ℕ) → Contains xs k → p k ≡ true → Contains (filter p xs) k
 passing p [] k at passes = absurd (omega (arith, at.1))
 passing p (x ∷ xs) k (zero, inside, is) passes =
     let here : p x ≡ true = ap p is ∙ passes in
@@ -123,14 +115,27 @@ passing p (x ∷ xs) k (suc n, inside, is) passes =
       | false ↦ rest
     ]
 
--- a section with a row and no symbol is among them
+-- a section that is named and has no symbol is among them
+pub is_among : (o : Elf) (named : ℕ → Bool) (sec : ℕ) → sec < length o.sections → named sec ≡ true → section_symbol_of o sec ≡ None → Contains (nameless o named) sec
+is_among o named sec inside here free =
+    passing (is_nameless o named) (range_with_len 0 (length o.sections)) sec
+    (sec, subst (λ n. sec < n) (sym (length-range_with_len 0 (length o.sections))) inside, get_or-range_with_len 0 (length o.sections) sec sec inside ∙ omega arith)
+    (and_from _ _ here (ap (λ (f : Option ℕ). is_none f) free))
+
+-- The sections that rows need are such.
+
+pub each_needed : (o : Elf) (rows : List PlacedRow) → All (IsNameless o (has_row rows)) (needed_symbols o rows)
+unfolding needed_symbols
+each_needed o rows = each_nameless o (has_row rows)
+
+pub needed_rise : (o : Elf) (rows : List PlacedRow) → AllPairs (λ a b. a < b) (needed_symbols o rows)
+unfolding needed_symbols
+needed_rise o rows = nameless_rise o (has_row rows)
+
 pub needs_one : (o : Elf) (rows : List PlacedRow) (sec : ℕ) → sec < length o.sections → has_row rows sec ≡ true → section_symbol_of o sec ≡ None
     → Contains (needed_symbols o rows) sec
 unfolding needed_symbols
-needs_one o rows sec inside row free =
-    passing (is_needed o rows) (range_with_len 0 (length o.sections)) sec
-    (sec, subst (λ n. sec < n) (sym (length-range_with_len 0 (length o.sections))) inside, get_or-range_with_len 0 (length o.sections) sec sec inside ∙ omega arith)
-    (and_from _ _ row (ap (λ (f : Option ℕ). is_none f) free))
+needs_one o rows = is_among o (has_row rows)
 
 -- a text section in which a symbol is defined
 pub record IsNamedText (o : Elf) (sec : ℕ) : Type 0 where

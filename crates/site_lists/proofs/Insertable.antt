@@ -9,15 +9,16 @@ use Rattle.elf_write.specs.SymbolLayout.{index_table, symbols_inserted}
 use Rattle.elf_write.specs.SymbolObject.{CanInsert}
 use Rattle.elf_write.specs.Taken.{AreFree}
 use Rattle.orc_output.proofs.Insertable.{length-bound, not_first}
+use Rattle.orc_output.proofs.NeededSections.{IsNameless}
 use Rattle.site_lists.specs.Listed.{Listed}
-use Rattle.site_lists.specs.Needed.{needed_symbols}
+use Rattle.site_lists.specs.Needed.{is_listed, needed_symbols}
 use Rattle.site_lists.specs.Tables.{CanHaveSites, symbols_needed}
 use Rattle.site_lists.proofs.OutputNameable.{can_name}
-use Rattle.site_lists.proofs.NeededSections.{IsNameableText, IsNeeded, each_needed, needed_rise, section_of_lists}
+use Rattle.site_lists.proofs.NeededSections.{IsNameableText, each_needed, needed_rise, section_of_lists}
 
 pub all_nameable : (o : Elf) (lists : Listed) → CanHaveSites o lists → All (IsNameableText o) (needed_symbols o lists)
 all_nameable o lists can =
-    All-weaker (IsNeeded o lists) (IsNameableText o) (λ sec is. section_of_lists o lists sec can.each is.named) (needed_symbols o lists) (each_needed o lists)
+    All-weaker (IsNameless o (is_listed lists)) (IsNameableText o) (λ sec is. section_of_lists o lists sec can.each is.named) (needed_symbols o lists) (each_needed o lists)
 
 pub all_free : (o : Elf) (lists : Listed) → AreFree o (needed_symbols o lists)
 all_free o lists k d inside = (each_needed o lists k d inside).free
@@ -38,7 +39,7 @@ can_insert o lists ok can few =
     record {
       rising = needed_rise o lists;
       some = All-weaker (IsNameableText o) (λ sec. 1 ≤ sec) (λ sec is. not_first o sec is.section ok is.at is.text) secs (all_nameable o lists can);
-      exist = All-weaker (IsNeeded o lists) (λ sec. sec < length o.sections) (λ sec is. is.exists) secs (each_needed o lists);
+      exist = All-weaker (IsNameless o (is_listed lists)) (λ sec. sec < length o.sections) (λ sec is. is.exists) secs (each_needed o lists);
       symbols = some_symbols o lists can;
       few = few;
       numbers = All-weaker (IsNameableText o) (λ sec. SHN_LORESERVE ≤ sec → IsSome (index_table o)) (λ sec is. (can_name o sec is.nameable).numbers) secs (all_nameable o lists can);

@@ -1,8 +1,8 @@
-use Rattle.std.proofs.Common.{◌≡◌, ℕ, ◌<◌, List, Bool, false, length, slice_index_or, ap, ◌∙◌, arith}
+use Rattle.std.proofs.Common.{◌≡◌, ℕ, ◌<◌, List, Bool, false, length, slice_index_or, sym, ap, ◌∙◌, arith}
 use Rattle.std.proofs.lemmas.Result.{IfOk-weaker}
 use Rattle.elf_objects.specs.Elf.{Elf}
 use Rattle.orc_output.specs.Needed.{has_row, needed_symbols, unnamed}
-use Rattle.orc_output.proofs.NeededSections.{unnamed_needed}
+use Rattle.orc_output.proofs.NeededSections.{needed-is, unnamed_nameless}
 use Rattle.orc_output.proofs.symbols.needed_symbols.Goals as goal
 
 pub returns : goal.returns
@@ -13,4 +13,4 @@ returns c =
     let marked : (sec : ℕ) → sec < length o.sections → slice_index_or marks sec false ≡ has_row rows sec =
     λ sec inside. ap (λ (m : List Bool). slice_index_or m sec false) c.deref.ensures.value ∙ c.in_ok-marks.ensures.marks sec false (omega (arith, inside, c.sections.ensures.value)) in
     IfOk-weaker c.unnamed_sections.result (λ secs. secs.items ≡ unnamed o marks) (λ secs. secs.items ≡ needed_symbols o rows)
-    (λ secs e. e ∙ unnamed_needed o rows marks marked) c.unnamed_sections.ensures
+    (λ secs e. e ∙ unnamed_nameless o (has_row rows) marks marked ∙ sym (needed-is o rows)) c.unnamed_sections.ensures
