@@ -71,7 +71,8 @@ def measured(name, object):
     print(f"  check takes {ours.seconds / theirs.seconds:.2f} of its processor time")
 
 
-objects = accepted([], sorted(glob.glob(os.environ["FOLDER"] + "/*.o")))
+alone = [it for it in sorted(glob.glob(os.environ["FOLDER"] + "/*.o")) if is_accepted([it])]
+objects = accepted([], alone)
 one = joined(objects, "one.o", *DEFINED_TWICE)
 measured(f"{len(objects)} objects joined", one)
 for copies in map(int, sys.argv[1:]):

@@ -26,14 +26,6 @@ still_usual insns before after stay n kept are = record {
   stays = are.stays;
 }
 
--- none is told
-pub none_usual : (insns : List Insn) (kinds : List PointKind) → AreUsual insns kinds [] 0
-none_usual insns kinds = record {
-  long = refl;
-  here = λ i insn less own. absurd (omega arith);
-  stays = λ i insn less own. absurd (omega arith);
-}
-
 same_insn : {a b : Insn} → Some a ≡ Some b → a ≡ b
 same_insn e = cc
 
