@@ -2,9 +2,10 @@
 # What `check` takes beside Linux's own objtool on parts of a Linux kernel, each measured by joined.sh.
 #   kernel.sh [PART..]
 # A part is a folder of the kernel's source, or several with commas between: the objects below them are joined. Where none is given, they
-# are fs/ext4, net/core, and these with ten more, some 5 MB of text. They are compiled here, of the sources of Linux 6.12 that Debian
+# are fs/ext4, net/core, and these with ten more, some 10 MB of text. They are compiled here, of the sources of Linux 6.12 that Debian
 # has, in Debian's configuration but for debugging information, and Linux's objtool isn't run over them: ten minutes on four processors.
-# It is a benchmark: nothing is asked of what it measures.
+# KEEP=FOLDER keeps those of each part in a folder there, as tools/compare/kernel-objects.sh takes them. It is a benchmark: nothing is asked
+# of what it measures.
 set -eu
 . "$(dirname "$0")/../lib/prepare.sh"
 . "$root/tools/lib/linux.sh"
@@ -12,6 +13,7 @@ needs "parts of a kernel" gcc make flex bison bc xz tar
 [ -e /usr/include/libelf.h ] || { echo "parts of a kernel: FAILED, not installed: libelf-dev" >&2; exit 1; }
 large=fs/ext4,net/core,kernel,mm,block,lib,crypto,security,fs/btrfs,fs/xfs,net/ipv4,net/ipv6
 [ $# -gt 0 ] || set -- fs/ext4 net/core "$large"
+kept=$(realpath -m "${KEEP:-$scratch/objects}")
 OBJTOOL=$(built) OBJTOOL_LINUX=$(linux_objtool)
 export OBJTOOL OBJTOOL_LINUX
 
@@ -36,9 +38,9 @@ cd "$tree"
 printf '%s/\n' ${*//,/ } | sort -u | xargs make -s -j "$(nproc)" objtool=true >"$scratch/said" 2>&1 ||
     { tail -n 20 "$scratch/said" >&2; exit 1; }
 for part; do
-    mkdir "$scratch/objects"
-    for object in $(compiled ${part//,/ }); do cp "$object" "$scratch/objects/${object//\//__}"; done
+    objects=$kept/${part//[\/,]/_}
+    mkdir -p "$objects"
+    for object in $(compiled ${part//,/ }); do cp "$object" "$objects/${object//\//__}"; done
     echo "$part:"
-    "$here/joined.sh" "$scratch/objects"
-    rm -r "$scratch/objects"
+    "$here/joined.sh" "$objects"
 done
