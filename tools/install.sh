@@ -1,5 +1,5 @@
 #!/usr/bin/env bash
-# Puts the program, its manual page, the names of Linux 6.6 and the completions of bash, zsh and fish in place.
+# Puts the program, its manual page, the names of Linux 6.6 and 6.12 and the completions of bash, zsh and fish in place.
 #   install.sh PREFIX
 # PREFIX is a folder such as /usr/local or ~/.local, which is made where it isn't there. DESTDIR goes before it, as for packages. The
 # program is the one that OBJTOOL names, or else what tools/build.sh builds. Prints each file that is put in place.
@@ -19,6 +19,7 @@ puts() {
 puts 755 "$program" bin/objtool
 puts 644 "$root/docs/objtool.1" share/man/man1/objtool.1
 puts 644 "$root/share/linux.names" share/objtool/linux.names
+puts 644 "$root/share/linux-6.12.names" share/objtool/linux-6.12.names
 puts 644 "$root/share/completions/objtool.bash" share/bash-completion/completions/objtool
 puts 644 "$root/share/completions/_objtool" share/zsh/site-functions/_objtool
 puts 644 "$root/share/completions/objtool.fish" share/fish/vendor_completions.d/objtool.fish

@@ -1,5 +1,5 @@
 -- What one more line adds to the lists.
-use Rattle.std.proofs.Common.{◌≡◌, ℕ, ◌+◌, ◌-◌, ◌<◌, ◌≤◌, true, false, Bool, cond, List, [], ◌∷◌, ◌++◌, length, take, drop, get_or, map, filter, Option, Some, None, refl, sym, ap, ◌∙◌, append_assoc, arith, add-zero}
+use Rattle.std.proofs.Common.{◌≡◌, ℕ, ◌+◌, ◌-◌, ◌<◌, ◌≤◌, true, false, Bool, cond, List, [], ◌∷◌, ◌++◌, length, take, drop, get_or, map, filter, Some, None, refl, sym, ap, ◌∙◌, append_assoc, arith, add-zero}
 use Rattle.std.specs.Prelude.{codes, nat_lt, position, ◌==◌}
 use Rattle.std.specs.List.{after_first, before_first, position_or_len}
 use Rattle.std.proofs.lemmas.Bool.Decides.{nat_tests}
@@ -11,7 +11,7 @@ use Rattle.std.specs.Ordering.{nat_cmp}
 use Rattle.std.specs.Cmp.Lexicographic.{slice_cmp, nat_list_cmp_total}
 use Rattle.std.specs.FinSet.{insert, from_list, from_list_push, nat_cmp-IsAntisymmetric, slice_cmp-IsAntisymmetric}
 use Rattle.ot_base.specs.NamesFile.{first_word, lines, rest_of, names_added}
-use Rattle.ot_base.specs.NameLists.{built_in, kernel_never_returning, kernel_access_safe, with_line, with_lines, with_name}
+use Rattle.ot_base.specs.NameLists.{built_in, kernel_never_returning, kernel_access_safe, kernel_loose, kernel_switching, with_line, with_lines, with_name}
 
 -- what a line adds to the list with this word
 abbrev added_by : List ℕ → List ℕ → List (List ℕ)
@@ -53,6 +53,8 @@ unfolding with_lines with_line
 with_lines_more ls line i = record {
   never_returning = list_more kernel_never_returning (codes "noreturn") ls line i;
   access_safe = list_more kernel_access_safe (codes "uaccess") ls line i;
+  loose = list_more kernel_loose (codes "loose") ls line i;
+  switching = list_more kernel_switching (codes "switch") ls line i;
 }
 
 -- no line

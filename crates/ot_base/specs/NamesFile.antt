@@ -30,9 +30,9 @@ rest_of line = after_first (λ b. b == 32) line
 abbrev pub says_nothing : List ℕ → Bool
 says_nothing line = length line == 0 || slice_index line 0 == 35
 
--- the words of the two lists
+-- the words of the four lists
 abbrev pub is_list_word : List ℕ → Bool
-is_list_word word = bytes_eq word (codes "noreturn") || bytes_eq word (codes "uaccess")
+is_list_word word = bytes_eq word (codes "noreturn") || (bytes_eq word (codes "uaccess") || (bytes_eq word (codes "loose") || bytes_eq word (codes "switch")))
 
 -- one or more bytes from 21 to 7E
 abbrev pub is_name_byte : ℕ → Bool

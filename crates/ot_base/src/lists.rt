@@ -15,7 +15,7 @@ use std::marker::Model;
 /// What is wrong with a line of a names file.
 #[derive(Clone, Copy, Debug, PartialEq, Eq)]
 pub enum ListsWhy {
-    /// Its first word is neither `noreturn` nor `uaccess`.
+    /// Its first word is none of `noreturn`, `uaccess`, `loose` and `switch`.
     Word,
     /// What follows that word isn't one name.
     Name,
@@ -83,7 +83,7 @@ impl From<AllocError> for ListsFault {
 }
 
 /// The functions of the kernel that never return.
-const KERNEL_NEVER_RETURNING: [&str; 45] = [
+const KERNEL_NEVER_RETURNING: [&str; 46] = [
     "panic",
     "do_exit",
     "make_task_dead",
@@ -100,6 +100,7 @@ const KERNEL_NEVER_RETURNING: [&str; 45] = [
     "__ia32_sys_exit_group",
     "__kunit_abort",
     "__module_put_and_kthread_exit",
+    "__reiserfs_panic",
     "__tdx_hypercall_failed",
     "__x64_sys_exit",
     "__x64_sys_exit_group",
@@ -142,11 +143,30 @@ const KERNEL_ACCESS_SAFE: [&str; 7] = [
     "ftrace_likely_update",
 ];
 
-/// Function names: those that never return, and those that may be called with user access on.
+/// The functions of the kernel that are checked as far as they can be followed.
+const KERNEL_LOOSE: [&str; 9] = [
+    "asm_exc_nmi",
+    "entry_SYSCALL_compat",
+    "return_to_handler",
+    "rewind_stack_and_make_dead",
+    "wakeup_long64",
+    "sev_verify_cbit",
+    "sme_encrypt_execute",
+    "restore_registers",
+    "srso_alias_safe_ret",
+];
+
+/// The functions of the kernel that switch tasks.
+const KERNEL_SWITCHING: [&str; 1] = ["__switch_to_asm"];
+
+/// Function names: those that never return, those that may be called with user access on, those that are checked as
+/// far as they can be followed, and those that switch tasks.
 #[derive(Drop)]
 pub struct Lists {
     never_returning: NameSet,
     access_safe: NameSet,
+    loose: NameSet,
+    switching: NameSet,
 }
 
 impl Model for Lists {
@@ -156,7 +176,7 @@ impl Model for Lists {
 
     ghost coded = { lists.name_lists_code };
 
-    ghost view = { λ l. record { never_returning = l.never_returning; access_safe = l.access_safe } };
+    ghost view = { λ l. record { never_returning = l.never_returning; access_safe = l.access_safe; loose = l.loose; switching = l.switching } };
 }
 
 impl Lists {
@@ -167,12 +187,14 @@ impl Lists {
         Ok(Lists {
             never_returning: NameSet::of(alloc, &KERNEL_NEVER_RETURNING)?,
             access_safe: NameSet::of(alloc, &KERNEL_ACCESS_SAFE)?,
+            loose: NameSet::of(alloc, &KERNEL_LOOSE)?,
+            switching: NameSet::of(alloc, &KERNEL_SWITCHING)?,
         })
     }
 
     /// The built-in lists with the names that a names file adds. Its lines end in LF, and the last may
-    /// lack it. A line is empty, begins with `#`, or is `noreturn NAME` or `uaccess NAME`, where NAME
-    /// has one or more bytes from 21 to 7E. The first other line is refused.
+    /// lack it. A line is empty, begins with `#`, or is `noreturn NAME`, `uaccess NAME`, `loose NAME` or
+    /// `switch NAME`, where NAME has one or more bytes from 21 to 7E. The first other line is refused.
     pub fn parse(alloc: Global, bytes: &[u8]) -> Result<Lists, ListsFault>
         ensures ok { IfOk result (λ lists. lists ≡ lists_with bytes.now) }
         ensures grammar { OnOk result (IsNamesFile bytes.now) }
@@ -198,7 +220,9 @@ impl Lists {
         ensures { OnOk result (self.new ≡ with_line self.old line.now) }
     {
         add_under(&mut self.never_returning, alloc, b"noreturn", line)?;
-        add_under(&mut self.access_safe, alloc, b"uaccess", line)
+        add_under(&mut self.access_safe, alloc, b"uaccess", line)?;
+        add_under(&mut self.loose, alloc, b"loose", line)?;
+        add_under(&mut self.switching, alloc, b"switch", line)
     }
 
     /// Whether a function of this name never returns.
@@ -213,6 +237,20 @@ impl Lists {
         ensures { result ≡ set.contains self.now.access_safe name.now }
     {
         self.access_safe.contains(name)
+    }
+
+    /// Whether a function of this name is checked as far as it can be followed.
+    pub fn is_loose(&self, name: &[u8]) -> bool
+        ensures { result ≡ set.contains self.now.loose name.now }
+    {
+        self.loose.contains(name)
+    }
+
+    /// Whether a function of this name switches tasks.
+    pub fn switches_tasks(&self, name: &[u8]) -> bool
+        ensures { result ≡ set.contains self.now.switching name.now }
+    {
+        self.switching.contains(name)
     }
 }
 
@@ -274,7 +312,10 @@ fn says_nothing(line: &[u8]) -> bool
 fn is_list_word(word: &[u8]) -> bool
     ensures { result ≡ is_list_word word.now }
 {
-    word == b"noreturn".as_slice() || word == b"uaccess".as_slice()
+    word == b"noreturn".as_slice()
+        || word == b"uaccess".as_slice()
+        || word == b"loose".as_slice()
+        || word == b"switch".as_slice()
 }
 
 /// Whether a name may have this byte.

@@ -1,7 +1,7 @@
-use Rattle.std.proofs.Common.{◌≡◌, ℕ, ◌+◌, ◌<◌, ◌≤◌, List, [], ◌∷◌, None, length, take, drop, get_or, arith, refl, sym, ap, ◌∙◌, below_more, take_all}
+use Rattle.std.proofs.Common.{◌≡◌, ◌+◌, ◌≤◌, [], ◌∷◌, None, length, take, drop, get_or, arith, refl, sym, ap, ◌∙◌, below_more, take_all}
 use Rattle.std.proofs.lemmas.List.{get_or_default}
 use Rattle.std.specs.Prelude.{option_map}
-use Rattle.ot_base.specs.NamesFile.{bytes_left, line_fault, lines, lines_in}
+use Rattle.ot_base.specs.NamesFile.{line_fault, lines, lines_in}
 use Rattle.ot_base.specs.NameLists.{with_line, with_lines}
 use Rattle.ot_base.proofs.ListsLemmas.{line_is, lines_after, lines_before, no_line_left, with_lines_more, with_no_line}
 use Rattle.ot_base.proofs.lists.Lists.parse.Goals as goal
