@@ -45,9 +45,9 @@ pub data AccessWarns (p : Program) (allowed : Allowances) : Place → ℕ → �
   return_without_access : (q : ℕ) → Reached p allowed q false true → Leaves p q → AccessWarns p allowed (p.place q) RETURN_WITHOUT_ACCESS (pos 0) (pos 0)
   -- 44. user access is turned on where it is on
   on_twice : (q : ℕ) (home : Bool) → Reached p allowed q true home → (p.insn q).op ≡ Stac → AccessWarns p allowed (p.place q) ACCESS_ON_TWICE (pos 0) (pos 0)
-  -- 45. it is turned off where it is off, in a function that isn't safe
-  off_twice : (q : ℕ) → Reached p allowed q false false → (p.insn q).op ≡ Clac → AccessWarns p allowed (p.place q) ACCESS_OFF_TWICE (pos 0) (pos 0)
+  -- 45. it is turned off where it is off, in a function that isn't safe; code of no function may turn it off so
+  off_twice : (q owner : ℕ) → Reached p allowed q false false → p.owner q ≡ Some owner → (p.insn q).op ≡ Clac → AccessWarns p allowed (p.place q) ACCESS_OFF_TWICE (pos 0) (pos 0)
   -- 46. a safe function turns it off
   safe_turns_off : (q : ℕ) (access : Bool) → Reached p allowed q access true → (p.insn q).op ≡ Clac → AccessWarns p allowed (p.place q) SAFE_FUNCTION_ACCESS_OFF (pos 0) (pos 0)
-  -- 47. a popf may change it unseen
-  popf : (q : ℕ) (access home : Bool) → Reached p allowed q access home → (p.insn q).op ≡ Popf → AccessWarns p allowed (p.place q) POPF_WITH_ACCESS_TRACKED (pos 0) (pos 0)
+  -- 47. where it is on, a popf may change it unseen
+  popf : (q : ℕ) (home : Bool) → Reached p allowed q true home → (p.insn q).op ≡ Popf → AccessWarns p allowed (p.place q) POPF_WITH_ACCESS_TRACKED (pos 0) (pos 0)

@@ -6,6 +6,9 @@ pub record Allowances : Type 0 where
   -- Whether an indirect branch or a return may stay as it is at this point: its place is listed in
   -- `.discard.retpoline_safe`.
   pub safe_branch : ℕ → Bool
+  -- Whether this point's code runs before user space does: its section is named `.init.text`, and the object is no part of a
+  -- module. What it branches to and how it returns is no matter of the options `retpoline` and `rethunk`.
+  pub before_user_space : ℕ → Bool
   -- Whether the name of this symbol is listed as that of a function that may be called with user access on.
   pub safe_name : ℕ → Bool
   -- Whether a processor with SMAP has other code in place of this point: it runs in an alternatives site that has

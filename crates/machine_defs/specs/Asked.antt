@@ -23,12 +23,13 @@ is_return RetImm = true
 is_return _ = false
 
 -- The warnings of a check under its options: those of the stack; and where an option asks for them, 31 an indirect branch and
--- 32 a return whose place isn't listed as safe, at any point, reached or not; and those of user access.
+-- 32 a return whose place isn't listed as safe, at any point, reached or not, whose code doesn't run before user space; and those
+-- of user access.
 pub data IsWarned (p : Program) (allowed : Allowances) (options : Options) : Place → ℕ → ℤ → ℤ → Type 0 where
   of_stack : (place : Place) (rule : ℕ) (a b : ℤ) → IsBroken p options place rule a b → IsWarned p allowed options place rule a b
-  indirect_branch : (q : ℕ) → options.retpoline ≡ true → IsPoint p q → is_indirect_branch (p.insn q).op ≡ true → allowed.safe_branch q ≡ false
+  indirect_branch : (q : ℕ) → options.retpoline ≡ true → IsPoint p q → is_indirect_branch (p.insn q).op ≡ true → allowed.safe_branch q ≡ false → allowed.before_user_space q ≡ false
       → IsWarned p allowed options (p.place q) INDIRECT_BRANCH (pos 0) (pos 0)
-  naked_return : (q : ℕ) → options.rethunk ≡ true → IsPoint p q → is_return (p.insn q).op ≡ true → allowed.safe_branch q ≡ false
+  naked_return : (q : ℕ) → options.rethunk ≡ true → IsPoint p q → is_return (p.insn q).op ≡ true → allowed.safe_branch q ≡ false → allowed.before_user_space q ≡ false
       → IsWarned p allowed options (p.place q) NAKED_RETURN (pos 0) (pos 0)
   of_access : (place : Place) (rule : ℕ) (a b : ℤ) → options.uaccess ≡ true → AccessWarns p allowed place rule a b → IsWarned p allowed options place rule a b
 

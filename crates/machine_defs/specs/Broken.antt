@@ -1,23 +1,22 @@
 -- The rules of stack validation, as the set of their warnings. A warning is a place, a rule's number
 -- and two numbers, which are 0 where the rule tells none.
-use Rattle.std.specs.Prelude.{◌≡◌, ◌≢◌, ℕ, ◌+◌, ◌-◌, ◌<◌, ◌≤◌, ◌⊎◌, ◌↔◌, Bool, true, false, Some, None, Err, Contains, ℤ, pos}
+use Rattle.std.specs.Prelude.{◌≡◌, ◌≢◌, ℕ, ◌+◌, ◌-◌, ◌<◌, ◌≤◌, ◌⊎◌, ◌↔◌, ◌&&◌, ◌||◌, Bool, true, false, Some, None, Err, Contains, ℤ, pos}
 use Rattle.ot_base.specs.declared.place.Place.{Place}
 use Rattle.ot_base.specs.declared.options.Options.{Options}
 use Rattle.ot_base.specs.declared.rules.TheConstants.{BAD_BRANCH_TARGET, FALLS_THROUGH, RUNS_OFF_SECTION, STATE_MISMATCH, MODIFIED_RETURN, MODIFIED_SIBLING_CALL, UNSUPPORTED_SP_WRITE, OFFSET_OUT_OF_RANGE, ALTERNATIVES_DISAGREE, JUMP_INTO_SITE, UNREACHABLE_INSTRUCTION, EXIT_NOT_ALLOWED, CALL_INTO_FUNCTION, FUNCTION_WITHOUT_SIZE, RESTORE_WITHOUT_SAVE, RELOCATED_STACK_OFFSET, CALL_WITHOUT_FRAME}
 use Rattle.operation_defs.specs.declared.op.Op.{Op}
 use Rattle.operation_defs.specs.declared.op.Op.TheVariants.{Nop, RetImm, Iret, Switch, Ud2, Int3}
 use Rattle.machine_defs.specs.declared.flow.Edge.{Edge}
-use Rattle.machine_defs.specs.declared.flow.EdgeKind.TheVariants.{Next, Sibling}
+use Rattle.machine_defs.specs.declared.flow.EdgeKind.TheVariants.{Next, Taken, Sibling}
 use Rattle.machine_defs.specs.declared.flow.Role.TheVariants.{Return, JumpOut, JumpAny}
 use Rattle.state_defs.specs.declared.state.State.{State}
 use Rattle.state_defs.specs.declared.state.HintState.TheVariants.{Restore}
-use Rattle.state_defs.specs.Move.{move}
 use Rattle.state_defs.specs.Row.{row_of, unfit_offset}
 use Rattle.state_defs.specs.Rules.{is_followed, return_rule, sibling_rule, switch_rule, iret_rule, call_rule, depth_number}
 use Rattle.machine_defs.specs.Program.{Program, IsPoint, Site, in_site, entry_points, is_call_op, edge}
 use Rattle.machine_defs.specs.Ways.{is_before_hint, may_leave}
 use Rattle.machine_defs.specs.IsProgram.{IsProgram, HintsStandAtPoints}
-use Rattle.machine_defs.specs.Kept.{edges_of, Brings, is_free, Kept, NotKept, Path}
+use Rattle.machine_defs.specs.Kept.{edges_of, moved_at, Brings, is_free, Kept, NotKept, Path}
 
 -- the point leaves its function without a return: to another of the program, by a jump, a static branch or a
 -- fixup, or by a jump outside
@@ -67,8 +66,9 @@ pub data Warns (p : Program) : Place → ℕ → ℤ → ℤ → Type 0 where
   drops_bytes : (q : ℕ) (s : State) → Kept p q s → p.role q ≡ Return → (p.insn q).op ≡ RetImm → return_rule s ≢ Some EXIT_NOT_ALLOWED → Warns p (p.place q) MODIFIED_RETURN (depth_number s) (pos 0)
   -- 6. it goes to another function, by a jump, a static branch or a fixup, with a modified stack
   modified_sibling : (q : ℕ) (s : State) → Kept p q s → LeavesByJump p q → sibling_rule s ≡ Some MODIFIED_SIBLING_CALL → Warns p (p.place q) MODIFIED_SIBLING_CALL (depth_number s) (pos 0)
-  -- 7, 8, 9, 10, 11, 15. the operation breaks the rule in its state; rsp may be written in any way right before a hint
-  refused : (q rule : ℕ) (s : State) → Kept p q s → move s (p.insn q).op ≡ Err rule → (rule ≡ UNSUPPORTED_SP_WRITE → is_before_hint p q ≡ false) → Warns p (p.place q) rule (pos 0) (pos 0)
+  -- 7, 8, 9, 10, 11, 15. the operation breaks the rule in its state, and the code isn't loose, or the rule is 10 or 15; rsp may be
+  -- written in any way right before a hint
+  refused : (q rule : ℕ) (s : State) → Kept p q s → moved_at p q s ≡ Err rule → (rule ≡ UNSUPPORTED_SP_WRITE → is_before_hint p q ≡ false) → Warns p (p.place q) rule (pos 0) (pos 0)
   -- 10. an offset of the state's row doesn't fit
   unfit : (q : ℕ) (s : State) (a : ℤ) → Kept p q s → unfit_offset s ≡ Some a → Warns p (p.place q) OFFSET_OUT_OF_RANGE a (pos 0)
   -- 12. two variants of a site have different rows where both have an instruction
@@ -104,26 +104,44 @@ is_filler Int3 = true
 is_filler Ud2 = true
 is_filler _ = false
 
--- an instruction that isn't reached: of a checked function, or of no function where patching alone doesn't lead
-pub record IsUnreached (p : Program) (q : ℕ) : Type 0 where
+-- Code that no symbol covers is a hole where the object is joined from several, or the options say that it is linked.
+abbrev pub is_hole : Program → Options → ℕ → Bool
+is_hole p options q = p.uncovered q && (p.linked || options.link)
+
+-- a jump of a hole leads to the part of a function that the point is in
+pub record IsInPartOfHole (p : Program) (options : Options) (q : ℕ) : Type 0 where
+  pub hole : ℕ
+  pub point : IsPoint p hole
+  pub plain : p.variant hole ≡ 0
+  pub left : is_hole p options hole ≡ true
+  pub entered : ℕ
+  pub leads : Contains (p.goes hole) (edge entered Taken)
+  pub of_part : p.function entered ≢ p.owner entered
+  pub same : p.function q ≡ p.function entered
+
+-- an instruction that isn't reached: of a checked function, or of no function where patching alone doesn't lead; in no hole, nor in
+-- a part to which one leads
+pub record IsUnreached (p : Program) (options : Options) (q : ℕ) : Type 0 where
   pub point : IsPoint p q
   pub plain : p.variant q ≡ 0
   pub checked : p.unchecked q ≡ false
   pub reachable : p.owner q ≡ None → p.in_patches q ≡ false
+  pub covered : is_hole p options q ≡ false
+  pub apart : IsInPartOfHole p options q → ⊥
   pub telling : is_filler (p.insn q).op ≡ false
   pub not_kept : NotKept p q
 
 -- The first of some unreached ones: the instruction before it is of another function, or of one where it is of none, or is reached.
-pub record IsFirstUnreached (p : Program) (q : ℕ) : Type 0 where
-  pub unreached : IsUnreached p q
-  pub first : (r : ℕ) → p.previous q ≡ Some r → p.function r ≡ p.function q → IsUnreached p r → ⊥
+pub record IsFirstUnreached (p : Program) (options : Options) (q : ℕ) : Type 0 where
+  pub unreached : IsUnreached p options q
+  pub first : (r : ℕ) → p.previous q ≡ Some r → p.function r ≡ p.function q → IsUnreached p options r → ⊥
 
 -- The warnings of a check of the stack: those above; 21 a call without a frame, where frame pointers are asked for; 14 the
 -- first of some unreached instructions, where these are asked for and nothing above warns. The rules that the options
 -- `retpoline` (31), `rethunk` (32) and `uaccess` (41 to 47) ask for are defined beside them (`AccessRules`, `Asked`).
 pub data IsBroken (p : Program) (options : Options) : Place → ℕ → ℤ → ℤ → Type 0 where
   always : (place : Place) (rule : ℕ) (a b : ℤ) → Warns p place rule a b → IsBroken p options place rule a b
-  unreachable : (q : ℕ) → options.unreachable ≡ true → IsAccepted p → IsFirstUnreached p q → IsBroken p options (p.place q) UNREACHABLE_INSTRUCTION (pos 0) (pos 0)
+  unreachable : (q : ℕ) → options.unreachable ≡ true → IsAccepted p → IsFirstUnreached p options q → IsBroken p options (p.place q) UNREACHABLE_INSTRUCTION (pos 0) (pos 0)
   without_frame : (q : ℕ) (s : State) → options.fp ≡ true → Kept p q s → is_call_op (p.insn q).op ≡ true → p.calls_fentry q ≡ false → call_rule s ≡ Some CALL_WITHOUT_FRAME → IsBroken p options (p.place q) CALL_WITHOUT_FRAME (pos 0) (pos 0)
 
 -- two paths bring different states to one point where states come in along edges

@@ -1,11 +1,13 @@
 -- The state that a checker keeps for each point, by levels.
-use Rattle.std.specs.Prelude.{◌≡◌, ◌↔◌, ℕ, zero, suc, ◌+◌, Bool, true, false, List, [], ◌∷◌, Option, Some, None, Result, Ok, Err, ◌==◌, filter, flat_map, if◌then◌else◌, option_and_then, Contains}
+use Rattle.std.specs.Prelude.{◌≡◌, ◌↔◌, ℕ, zero, suc, ◌+◌, Bool, true, false, ◌||◌, List, [], ◌∷◌, Option, Some, None, Result, Ok, Err, ◌==◌, filter, flat_map, if◌then◌else◌, option_and_then, Contains}
 use Rattle.std.specs.List.{list_any}
-use Rattle.operation_defs.specs.declared.op.Op.{Op}
+use Rattle.ot_base.specs.declared.rules.TheConstants.{UNSUPPORTED_SP_WRITE, BP_NOT_SAVED, STACK_POINTER_LOST, SAVED_SLOT_DROPPED}
 use Rattle.machine_defs.specs.declared.flow.Edge.{Edge}
 use Rattle.machine_defs.specs.declared.flow.EdgeKind.{EdgeKind}
 use Rattle.machine_defs.specs.declared.flow.EdgeKind.TheVariants.{Next, Taken, Fixup, Table, Sibling}
+use Rattle.state_defs.specs.declared.state.EndKind.TheVariants.{Undefined}
 use Rattle.state_defs.specs.declared.state.State.{State}
+use Rattle.state_defs.specs.declared.state.State.TheVariants.{Ended}
 use Rattle.state_defs.specs.declared.state.HintState.{HintState}
 use Rattle.state_defs.specs.declared.state.HintState.TheVariants.{Set, Save, Restore}
 use Rattle.state_defs.specs.State.{initial}
@@ -16,7 +18,7 @@ use Rattle.machine_defs.specs.MayReturn.{target_may_return}
 
 -- whether control may go along an edge of this kind: a call that can't come back has no Next
 abbrev pub can_go : Program → ℕ → EdgeKind → Bool
-can_go p q Next = target_may_return p (p.role q)
+can_go p q Next = target_may_return p q
 can_go p q Taken = true
 can_go p q Fixup = true
 can_go p q Table = true
@@ -31,18 +33,32 @@ abbrev pub moved : Result State ℕ → List State
 moved (Ok s) = s ∷ []
 moved (Err rule) = []
 
--- what a state is brought along an edge as: to a fixup the state before the instruction, else the one
+-- whether a refused move has lost rsp or rbp: by the rules 7, 8, 9 and 11
+abbrev pub loses_stack : ℕ → Bool
+loses_stack rule = rule == UNSUPPORTED_SP_WRITE || (rule == BP_NOT_SAVED || (rule == STACK_POINTER_LOST || rule == SAVED_SLOT_DROPPED))
+
+-- behind loose code that loses rsp or rbp nothing is known of the stack
+abbrev pub loosened : Bool → Result State ℕ → Result State ℕ
+loosened false result = result
+loosened true (Ok s) = Ok s
+loosened true (Err rule) = if loses_stack rule then Ok (Ended Undefined) else Err rule
+
+-- the move of a state by the instruction of a point
+abbrev pub moved_at : Program → ℕ → State → Result State ℕ
+moved_at p q s = loosened (p.loose q) (move s (p.insn q).op)
+
+-- what a state is brought along an edge as, where its move is told: to a fixup the state before the instruction, else the one
 -- after it; to another function none
-abbrev pub brought_along : State → Op → EdgeKind → List State
-brought_along s op Next = moved (move s op)
-brought_along s op Taken = moved (move s op)
-brought_along s op Fixup = s ∷ []
-brought_along s op Table = moved (move s op)
-brought_along s op Sibling = []
+abbrev pub brought_along : State → Result State ℕ → EdgeKind → List State
+brought_along s after Next = moved after
+brought_along s after Taken = moved after
+brought_along s after Fixup = s ∷ []
+brought_along s after Table = moved after
+brought_along s after Sibling = []
 
 -- the states that point a with state s brings to point q
 abbrev pub brought_by : Program → ℕ → State → ℕ → List State
-brought_by p a s q = flat_map (λ e. brought_along s (p.insn a).op e.kind) (filter (λ e. e.to == q) (edges_of p a))
+brought_by p a s q = flat_map (λ e. brought_along s (moved_at p a s) e.kind) (filter (λ e. e.to == q) (edges_of p a))
 
 abbrev pub Brings : Program → ℕ → State → ℕ → State → Type 0
 Brings p a s q t = Contains (brought_by p a s q) t

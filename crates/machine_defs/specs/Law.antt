@@ -38,7 +38,7 @@ pub record IsCallKept (p : Program) (call : ℕ) (f : Frame) (fs : List Frame) :
 -- call; and a point where a frame stands from which no return comes needs none of this.)
 abbrev pub CallReturns : Program → ℕ → ℕ → Type 0
 CallReturns p call standing =
-    (p.dead_end call ≡ true) ⊎ ((is_listed p (p.role call) ≡ true) ⊎ ((target_may_return p (p.role call) ≡ true) ⊎ (p.may_return standing ≡ false)))
+    (p.dead_end call ≡ true) ⊎ ((is_listed p call ≡ true) ⊎ ((target_may_return p call ≡ true) ⊎ (p.may_return standing ≡ false)))
 
 -- the frames as they were at a mark
 abbrev pub marked : Option Slot → List Frame → List Frame

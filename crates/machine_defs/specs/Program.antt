@@ -33,7 +33,10 @@ pub record Program : Type 0 where
   -- The instruction of a point: its length, and what a program makes of its decoded operation (`made`, in
   -- `operation_defs`). Premise *ways out come back*: an IRET, or a way out by the system, of which a program makes an
   -- IretNext or an SpOther, goes on right behind itself, with user access and protected slots as they were; the
-  -- first finds rsp right above the five words that were pushed before it.
+  -- first finds rsp right above the five words that were pushed before it. Premise *a switched task comes back*: where code that
+  -- switches tasks loads rsp, which a program makes a BpOther, the task finds rsp as it left it there, and meanwhile other
+  -- tasks run, as code outside does. Premise *returning names return for their caller*: code at a returning name, of whose call
+  -- a program makes a Jmp with the role of a jump outside, takes its own return address off, if it was called, and returns.
   pub insn : ℕ → Insn
   -- Where its bytes stand: of a padding point, the end of its replacement.
   pub place : ℕ → Place
@@ -52,10 +55,19 @@ pub record Program : Type 0 where
   -- Whether its section holds code to which control comes by patching alone: its name is `.altinstr_replacement` or
   -- `.altinstr_aux`.
   pub in_patches : ℕ → Bool
+  -- Whether its address lies in a symbol whose name is listed as one of loose code, or of code that switches tasks: such code is
+  -- checked as far as it can be followed, and where a rule on rsp or rbp would be broken, the stack counts as ended from there on.
+  pub loose : ℕ → Bool
+  -- Whether its place is in no function, though a symbol of its section, other than section symbols, has a value at or below
+  -- it: none of these symbols covers it. A linker that drops a weak definition leaves such code.
+  pub uncovered : ℕ → Bool
   -- The plain point of the boundary right before a plain point, in its section.
   pub previous : ℕ → Option ℕ
-  -- The unwind hint at its place.
+  -- The unwind hint that counts for it: that at its own place; where there is none, and it is the first point of a replacement
+  -- of a site, a hint at the place where the site starts, unless that is a SAVE.
   pub hint : ℕ → Option HintState
+  -- Whether a hint stands at its own place.
+  pub own_hint : ℕ → Bool
   -- The SAVE point that a RESTORE means: of its owner, in the section of its address, with the greatest address
   -- below that, and of the least variant among those with one address.
   pub save_of : ℕ → Option ℕ
@@ -63,13 +75,21 @@ pub record Program : Type 0 where
   pub goes : ℕ → List Edge
   -- What it is to its function (`Role`), also in an unchecked one.
   pub role : ℕ → Role
+  -- The symbol by which a call, or a jump by a 32-bit displacement, names its target: the GLOBAL or WEAK symbol of the
+  -- relocation on its last four bytes, if that has the type PC32 or PLT32 and the addend -4.
+  pub names : ℕ → Option ℕ
+  -- Whether it is a call, direct or not, whose end is a place of `.discard.reachable`: control comes back behind it, whatever it
+  -- calls.
+  pub marked_call : ℕ → Bool
   -- Execution doesn't go on behind it, unless a static branch stands there: a Ud2, or an instruction that ends at
   -- a place of `.discard.unreachable`, where no place of `.discard.reachable` is that end.
   pub dead_end : ℕ → Bool
   -- What is wrong with where it goes (`Marks`).
   pub marks : ℕ → Marks
   -- The points that follow a point, whatever it does: `arrive` of the boundary behind a plain point; the next
-  -- point of a replacement, its padding point included, and `arrive` of the site's end behind the last.
+  -- point of a replacement, its padding point included, and `arrive` of the site's end behind the last. Behind a plain
+  -- point of a run of no-ops in a site (each the one byte 90) it is `arrive` of the run's end. Premise *a run of no-ops is one
+  -- instruction*: where a processor executes the original code of a site, such a run has been made one NOP, or a jump to its end.
   pub after : ℕ → List ℕ
   -- Where control that comes to a place may stand: at the plain point there, and where a site starts there also
   -- at the first point of each of its replacements.
@@ -88,6 +108,8 @@ pub record Program : Type 0 where
   pub texts : List TextSection
   -- The places of the FUNC symbols of text sections with the size 0.
   pub unsized : List Place
+  -- Whether it is joined from several objects: there is more than one symbol of type FILE.
+  pub linked : Bool
 
 -- the points of a program
 abbrev pub IsPoint : Program → ℕ → Type 0

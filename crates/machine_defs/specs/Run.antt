@@ -45,13 +45,15 @@ pub record IsAtEntry (core : Core) (f : Frame) : Type 0 where
   pub cfa : f.cfa ≡ up core.rsp 8
   pub bp : f.bp ≡ core.rbp
 
--- a plain point of checked code at which a run may start by its hint: not inside a site, but for its
--- first instruction
-pub record MayStart (p : Program) (q : ℕ) : Type 0 where
-  pub point : IsPoint p q
-  pub plain : p.variant q ≡ 0
-  pub checked : p.unchecked q ≡ false
-  pub outside : (site : Site) → Contains p.sites site → in_site site (p.place q) ≡ true → site.start ≡ p.place q
+-- A point of checked code at which a run may start by the hint of a plain one: at that one, which is in no site past its start,
+-- or, where a site starts there, at the first point of a replacement for which the hint counts.
+pub record MayStart (p : Program) (r : ℕ) : Type 0 where
+  pub plain_point : ℕ
+  pub point : IsPoint p plain_point
+  pub plain : p.variant plain_point ≡ 0
+  pub outside : (site : Site) → Contains p.sites site → in_site site (p.place plain_point) ≡ true → site.start ≡ p.place plain_point
+  pub arrives : (r ≡ plain_point) ⊎ (Contains (entry_points p plain_point) r × (p.own_hint r ≡ false))
+  pub checked : p.unchecked r ≡ false
 
 -- The start s is what the hint at its point, if there is one, makes of t, where nothing has ended the
 -- stack; it has no mark.

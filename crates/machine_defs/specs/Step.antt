@@ -8,15 +8,17 @@ use Rattle.machine_defs.specs.declared.flow.EdgeKind.{EdgeKind}
 use Rattle.machine_defs.specs.declared.flow.EdgeKind.TheVariants.{Fixup, Sibling}
 use Rattle.machine_defs.specs.declared.flow.Role.{Role}
 use Rattle.machine_defs.specs.declared.flow.Role.TheVariants.{CallIn, CallEither, CallAny, Return, JumpOut, JumpAny}
-use Rattle.state_defs.specs.declared.state.State.TheVariants.{Regs}
+use Rattle.state_defs.specs.declared.state.EndKind.{EndKind}
+use Rattle.state_defs.specs.declared.state.State.TheVariants.{Ended, Regs}
 use Rattle.state_defs.specs.declared.state.HintState.TheVariants.{Set}
 use Rattle.state_defs.specs.Address.{up, down}
 use Rattle.state_defs.specs.Region.{Region, Reads, WritesOnly, WritesWord, Stores}
 use Rattle.state_defs.specs.Frame.{Unsaved, PartialAt, is_of_call, Frame, protected_addresses}
 use Rattle.state_defs.specs.Effect.{Core, StoresOrdinarily, Effect}
 use Rattle.machine_defs.specs.Program.{Program, IsPoint, Site, in_site, entry_points, edge, is_local}
-use Rattle.machine_defs.specs.MayReturn.{is_listed, may_call_out}
-use Rattle.machine_defs.specs.Ways.{is_before_hint, may_leave}
+use Rattle.machine_defs.specs.MayReturn.{is_listed}
+use Rattle.machine_defs.specs.Kept.{Kept}
+use Rattle.machine_defs.specs.Ways.{is_before_hint, may_call_out, may_leave}
 use Rattle.machine_defs.specs.Machine.{Bases, Standing, Machine, Wrecked, At, point_address, return_address}
 use Rattle.machine_defs.specs.Hint.{Lands}
 
@@ -37,6 +39,13 @@ as_any_write op = op
 abbrev pub op_at : Program → Standing → Op
 op_at p s = if is_some s.ended || is_before_hint p s.point then as_any_write (p.insn s.point).op else (p.insn s.point).op
 
+-- The end of the stack behind an instruction that goes on: as before it. Loose code may lose the stack: where the state that is
+-- kept behind it says that the stack has ended, it has.
+pub data EndedBehind (p : Program) (s t : Standing) : Type 0 where
+  stays : p.loose s.point ≡ false → t.ended ≡ s.ended → EndedBehind p s t
+  is_lost : (kind : EndKind) → p.loose s.point ≡ true → Kept p t.point (Ended kind) → t.ended ≡ Some kind → EndedBehind p s t
+  is_kept : p.loose s.point ≡ true → ((kind : EndKind) → Kept p t.point (Ended kind) → ⊥) → t.ended ≡ s.ended → EndedBehind p s t
+
 -- 1. An instruction goes on in its function, by an edge Next, Taken or Table, with its effect. A call doesn't: it has
 -- no effect of its own.
 pub record GoesOn (p : Program) (s t : Standing) : Type 0 where
@@ -44,7 +53,8 @@ pub record GoesOn (p : Program) (s t : Standing) : Type 0 where
   pub local : IsTrue (is_local kind)
   pub along : Contains (p.goes s.point) (edge t.point kind)
   pub effect : Effect (op_at p s) s.core t.core
-  pub level : SameLevel s t
+  pub ended : EndedBehind p s t
+  pub mark : t.mark ≡ s.mark
 
 -- 2. It faults, and goes to its fixup. Ordinary stores may happen.
 pub record Faults (p : Program) (s t : Standing) : Type 0 where
@@ -83,9 +93,10 @@ pub record CallsIn (p : Program) (bases : Bases) (s t : Standing) : Type 0 where
   pub ended : t.ended ≡ None
   pub mark : t.mark ≡ None
 
--- 4. It calls code outside, which returns: it keeps rsp, rbp, user access and protected slots.
+-- 4. It calls code outside, or what comes back as that does (`may_call_out`), and control comes back: rsp, rbp, user access and
+-- protected slots are kept.
 pub record CallsOut (p : Program) (s t : Standing) : Type 0 where
-  pub target : IsTrue (may_call_out p (p.role s.point))
+  pub target : IsTrue (may_call_out p s.point)
   pub passed : p.dead_end s.point ≡ false
   pub comes_back : Contains (p.after s.point) t.point
   pub stores : StoresOrdinarily s.core t.core
@@ -143,7 +154,7 @@ pub record Returns (p : Program) (s t : Standing) : Type 0 where
   pub call : ℕ
   pub called : frame.call ≡ Some call
   pub passed : p.dead_end call ≡ false
-  pub unlisted : is_listed p (p.role call) ≡ false
+  pub unlisted : is_listed p call ≡ false
   pub still_ended : ends_run p s ≡ true → is_some frame.ended_caller ≡ true
   pub comes_back : Contains (p.after call) t.point
   pub memory : LeavesMemory (p.role s.point) below s.core.region t.core.region
@@ -189,15 +200,17 @@ pub data Wrecks (p : Program) (s : Standing) : Type 0 where
   into_function : (p.marks s.point).into_function ≡ true → Wrecks p s
   past_end : (p.marks s.point).past_end ≡ true → (p.owner s.point ≡ None → s.ended ≡ None) → Wrecks p s
 
--- A gate: a plain point without owner and outside sites, at which a hint says that the processor has
--- just pushed ip, cs, flags, sp and ss, and an error code where n is 8.
+-- A gate: a plain point without owner, at which a hint says that the processor has just pushed ip, cs, flags, sp and ss, and an
+-- error code where n is 8. It is in no site, past its start; where a site starts there, none of its replacements has a hint of
+-- its own at its first point, so that this one counts for each.
 pub record IsGate (p : Program) (gate n : ℕ) : Type 0 where
   pub point : IsPoint p gate
   pub plain : p.variant gate ≡ 0
   pub free : p.owner gate ≡ None
-  pub outside : (site : Site) → Contains p.sites site → in_site site (p.place gate) ≡ false
+  pub at_start : (site : Site) → Contains p.sites site → in_site site (p.place gate) ≡ true → site.start ≡ p.place gate
   pub error_code : (n ≡ 0) ⊎ (n ≡ 8)
   pub hint : p.hint gate ≡ Some (Set (Regs false (pos n)))
+  pub counts : (r : ℕ) → Contains (entry_points p gate) r → (r ≡ gate) ⊎ ((p.own_hint r ≡ false) × (p.hint r ≡ Some (Set (Regs false (pos n)))))
 
 -- where the processor puts the five words: right below rsp, rounded down to a multiple of 16
 abbrev pub interrupt_slot : ℕ → ℕ
@@ -216,12 +229,13 @@ interrupt_frame p bases s = record {
   mark_caller = s.mark;
 }
 
--- 8. An interrupt comes, at any point: the address of its instruction and rsp are pushed among the
--- five words, of which the others are anything. The gate is outside sites, so that control comes to
--- it alone.
+-- 8. An interrupt comes, at any point, and goes to a gate: the address of its instruction and rsp are pushed among the
+-- five words, of which the others are anything.
 pub record IsInterrupted (p : Program) (bases : Bases) (s t : Standing) : Type 0 where
   pub n : ℕ
-  pub gate : IsGate p t.point n
+  pub entered : ℕ
+  pub gate : IsGate p entered n
+  pub arrives : Contains (entry_points p entered) t.point
   pub only : WritesOnly (down (interrupt_slot s.core.rsp) n) (n + 40) s.core.region t.core.region
   pub ra : Reads t.core.region (interrupt_slot s.core.rsp) (point_address p bases s.point)
   pub cfa : Reads t.core.region (up (interrupt_slot s.core.rsp) 24) s.core.rsp

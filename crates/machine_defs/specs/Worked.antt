@@ -51,11 +51,16 @@ framed = record {
   owner = λ _. Some 0;
   unchecked = λ _. false;
   in_patches = λ _. false;
+  loose = λ _. false;
+  uncovered = λ _. false;
   previous = λ q. slice_index_or (None ∷ Some 0 ∷ Some 1 ∷ Some 2 ∷ []) q None;
   hint = λ _. None;
+  own_hint = λ _. false;
   save_of = λ _. None;
   goes = λ q. slice_index_or ((edge 1 Next ∷ []) ∷ (edge 2 Next ∷ []) ∷ (edge 3 Next ∷ []) ∷ []) q [];
   role = λ q. slice_index_or (Plain ∷ Plain ∷ Plain ∷ []) q Return;
+  names = λ _. None;
+  marked_call = λ _. false;
   dead_end = λ _. false;
   marks = λ _. record { bad = false; past_end = false; into_site = false; into_function = false; relocated = false };
   after = λ q. slice_index_or ((1 ∷ []) ∷ (2 ∷ []) ∷ (3 ∷ []) ∷ []) q [];
@@ -67,6 +72,7 @@ framed = record {
   sites = [];
   texts = record { sec = 1; size = 6 } ∷ [];
   unsized = [];
+  linked = false;
 }
 
 -- level by level its points get the states of the function's prologue and epilogue

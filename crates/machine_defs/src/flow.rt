@@ -35,8 +35,9 @@ pub struct Edge {
 /// What an instruction is to its function: whether it calls, leaves, or neither. Entries are numbers of
 /// points, symbols are numbers of the symbol table.
 ///
-/// An entry that is called is the start of a function that is neither a part nor unchecked. Between code of no function
-/// it may also be a place of no function and in no site at which a hint tells a call frame or ends the stack (`MayCall`).
+/// An entry that is called is the start of a function that is neither a part nor unchecked. It may also be a place of no
+/// function, and in no site past its start, at which hints tell a call frame or end the stack, where code of no function calls
+/// it, or a checked function by a symbol's name (`MayCall`).
 ///
 /// The start of an unchecked function is no entry: a call or jump there is one to code outside, with that
 /// function's symbol.
@@ -49,14 +50,17 @@ pub enum Role {
     CallIn { entry: u32 },
     /// Calls a weak symbol: this entry, or what another object has under that name.
     CallEither { entry: u32, sym: u32 },
-    /// Calls a symbol outside this object, or the start of an unchecked function.
+    /// Calls a symbol outside this object, or the start of an unchecked function. So does a function's call, by a symbol's name, of a
+    /// place of no function at which a hint tells saved registers (REGS, REGS_PARTIAL): a gate, for which the function pushed
+    /// what an interrupt does.
     CallOut { sym: u32 },
     /// Calls indirectly, also by `__x86_indirect_thunk_*`: any entry, or code outside.
     CallAny,
     /// Returns, also by a jump, conditional or not, to `__x86_return_thunk`.
     Return,
     /// Jumps, conditionally or not, to a symbol outside this object or to the start of an unchecked
-    /// function. So does a jump to a weak symbol of this object, which has its edge into the object besides.
+    /// function. So does a jump to a weak symbol of this object, which has its edge into the object besides; a call of code that
+    /// returns for its caller (a returning name); and a jump to such code that begins inside another instruction.
     JumpOut { sym: u32 },
     /// Jumps indirectly, also by `__x86_indirect_thunk_*`, through no recognised jump table: to any entry,
     /// or outside.
@@ -88,7 +92,7 @@ pub struct Marks {
     /// that site's original code. A jump that stays in its replacement has no such target.
     pub into_site: bool,
     /// It calls a boundary of this object that is neither an entry, nor the start of an unchecked function, nor what
-    /// code of no function may call (`MayCall`): a place inside a function, of no function, or at the start of a part.
+    /// it may call of code of no function (`MayCall`, and gates by a symbol's name from a function): a place inside a function, of no function, or at the start of a part.
     pub into_function: bool,
     /// It moves rsp or rbp by a number, masks rsp with one, or saves or loads rbp at one from rsp, and a relocation begins
     /// at one of its bytes, so that a linker changes the number.

@@ -69,7 +69,7 @@ TakesSmap allowed (At s) = allowed.lacks_smap s.point ≡ false
 pub data AccessRun (p : Program) (allowed : Allowances) (bases : Bases) : Machine → List Bool → Type 0 where
   at_entry : (s : Standing) (entry : ℕ) → Start p bases s → IsInStack s.core → Contains p.entries entry → Contains (entry_points p entry) s.point
       → allowed.lacks_smap s.point ≡ false → s.core.ac ≡ is_safe p allowed entry → AccessRun p allowed bases (At s) (is_safe p allowed entry ∷ [])
-  at_hint : (s : Standing) (hint : HintState) → Start p bases s → IsInStack s.core → p.hint s.point ≡ Some hint → p.owner s.point ≡ None
+  at_hint : (s : Standing) → Start p bases s → IsInStack s.core → p.own_hint s.point ≡ true → p.owner s.point ≡ None
       → s.core.ac ≡ false → AccessRun p allowed bases (At s) (false ∷ [])
   stepped : (m n : Machine) (homes after : List Bool) → AccessRun p allowed bases m homes → (step : Step p bases m n) → is_interrupt step ≡ false
       → HomesAfter p allowed bases m n step homes after → TakesSmap allowed n → StaysInStack n

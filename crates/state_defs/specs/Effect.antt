@@ -60,7 +60,8 @@ MakesRoom before after = (after.rsp ≤ before.rsp) × (after ≡ record before 
 -- anything. Pushes write below rsp wherever that is. Calls, returns and ways out of the code don't go
 -- on so (⊥): the machine's step has lines of their own for them. A register that is subtracted from rsp,
 -- or to which rsp is set, makes room: rsp doesn't rise. That is a premise; the machine's step says where
--- it isn't asked, and these two write rsp in any way.
+-- it isn't asked, and these two write rsp in any way. Premise *flags that are loaded keep user access off*: where it is off, a popf
+-- loads flags that were saved with it off.
 abbrev pub Effect : Op → Core → Core → Type 0
 Effect Plain c d = StoresOrdinarily c d × (d ≡ record c { region = d.region })
 Effect Nop c d = d ≡ c
@@ -69,7 +70,7 @@ Effect Push c d = WritesOnly (down c.rsp 8) 8 c.region d.region × (d ≡ record
 Effect PushBp c d = WritesWord (down c.rsp 8) c.rbp c.region d.region × (d ≡ record c { rsp = down c.rsp 8; region = d.region; shadow = after_save c.rbp (down c.rsp 8) c.shadow })
 Effect Pop c d = StoresOrdinarily c d × (d ≡ record c { rsp = up c.rsp 8; region = d.region })
 Effect PopBp c d = Reads c.region c.rsp d.rbp × (d ≡ record c { rsp = up c.rsp 8; rbp = d.rbp; shadow = with_top_slot (popped_slot c.rsp) c.shadow })
-Effect Popf c d = d ≡ record c { rsp = up c.rsp 8; ac = d.ac }
+Effect Popf c d = (c.ac ≡ false → d.ac ≡ false) × (d ≡ record c { rsp = up c.rsp 8; ac = d.ac })
 Effect (AddSp by) c d = d ≡ record c { rsp = shifted c.rsp by }
 Effect (AndSp mask) c d = d ≡ record c { rsp = bit_and c.rsp (shifted 0 mask) }
 Effect (LeaSpBp by) c d = d ≡ record c { rsp = shifted c.rbp by }
