@@ -1,8 +1,8 @@
 /// What an instruction does to rsp, rbp, the stack and the flow of control (Intel SDM, volume 2).
 ///
 /// Decoding gives every operation but three: `Hop`, `LeaBpRoom` and `IretNext`. They are what a program makes of a
-/// decoded `Call`, `LeaBpSp` and `Iret`, and of some `Switch` it makes an `SpOther`: by what the object says around
-/// the instruction (`specs/Made.antt` says when).
+/// decoded `Call`, `LeaBpSp` and `Iret`. Of another `Call` it makes a wide `Jmp`, of some `Switch` an `SpOther`, and of
+/// some `SpOther` a `BpOther`: by what the object says around the instruction (`specs/Made.antt` says when).
 ///
 /// Encodings are given by opcode and ModRM digit. ADD, SUB, AND, LEA, MOV and IRET are meant with
 /// REX.W where an operation names them. Those that address memory by rsp or rbp have that base alone,
@@ -59,7 +59,9 @@ pub enum Op {
     /// and store. So does a way out by the system that comes back right behind itself, with the words that a walk
     /// needs and user access as they were: that it does so is a premise of whoever takes a `Switch` for one.
     SpOther,
-    /// Writes rbp, EBP, BP or BPL in another way, and not rsp. It may store.
+    /// Writes rbp, EBP, BP or BPL in another way, and not rsp. It may store. So does a load of rsp by which tasks are
+    /// switched, as the task that is switched away sees it: that rsp is as it left it is a premise of whoever takes an
+    /// `SpOther` for one.
     BpOther,
     /// A near call by a displacement (E8).
     Call { rel: i32 },
@@ -68,7 +70,8 @@ pub enum Op {
     Hop,
     /// A near call through a register or memory (FF /2).
     CallInd,
-    /// A near jump by a displacement (EB, E9); `wide` where that has 32 bits.
+    /// A near jump by a displacement (EB, E9); `wide` where that has 32 bits. So is a call of code that returns for its
+    /// caller, to the caller's caller: the word that it pushes lies below rsp afterwards.
     Jmp { rel: i32, wide: bool },
     /// A jump on a condition (70 to 7F, 0F 80 to 8F), LOOP and its like, and JRCXZ (E0 to E3); `wide`
     /// where the displacement has 32 bits.
