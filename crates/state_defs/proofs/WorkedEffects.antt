@@ -1,5 +1,5 @@
 -- What each operation does, from one core.
-use Rattle.std.proofs.Common.{◌≡◌, ℕ, ◌≤◌, [], ◌++◌, refl, arith, lit≤}
+use Rattle.std.proofs.Common.{◌≡◌, ℕ, ◌≤◌, [], ◌++◌, true, false, refl, arith, lit≤}
 use Rattle.state_defs.specs.Region.{word_at, Stores, WritesOnly}
 use Rattle.state_defs.specs.Frame.{protected_addresses}
 use Rattle.state_defs.specs.WorkedEffects.{word, stack, four_words, stored, rbp_below, rbp_third, before, HasEffects}
@@ -29,7 +29,10 @@ effects = record {
   pop = (stores, refl);
   pop_bp = (refl, refl);
   pop_saved_bp = (refl, refl);
-  popf = refl;
+  popf = (λ off. refl, refl);
+  popf_leaves = (λ off. off, refl);
+  popf_off = (λ off. off, refl);
+  popf_turns_on = λ h. let e : true ≡ false = h.0 refl in let k : ⊥ = cc in k;
   add_sp = refl;
   and_sp = refl;
   lea_sp_bp = refl;

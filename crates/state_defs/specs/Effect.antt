@@ -60,8 +60,8 @@ MakesRoom before after = (after.rsp ≤ before.rsp) × (after ≡ record before 
 -- anything. Pushes write below rsp wherever that is. Calls, returns and ways out of the code don't go
 -- on so (⊥): the machine's step has lines of their own for them. A register that is subtracted from rsp,
 -- or to which rsp is set, makes room: rsp doesn't rise. That is a premise; the machine's step says where
--- it isn't asked, and these two write rsp in any way. Premise *flags that are loaded keep user access off*: where it is off, a popf
--- loads flags that were saved with it off.
+-- it isn't asked, and these two write rsp in any way. Premise *flags that are loaded keep user access
+-- off*: where it is off, a popf loads flags that were saved with it off.
 abbrev pub Effect : Op → Core → Core → Type 0
 Effect Plain c d = StoresOrdinarily c d × (d ≡ record c { region = d.region })
 Effect Nop c d = d ≡ c

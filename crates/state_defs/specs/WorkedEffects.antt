@@ -42,7 +42,11 @@ pub record HasEffects : Type 0 where
   pub pop_bp : Effect PopBp before (record before { rsp = 0x8010; rbp = 7 })
   -- rbp is back, and isn't saved any more
   pub pop_saved_bp : Effect PopBp (record before { shadow = frame (SavedAt 0x8008) }) (record before { rsp = 0x8010; rbp = 7 })
-  pub popf : Effect Popf before (record before { rsp = 0x8010; ac = true })
+  -- where user access is on, a popf may turn it off or leave it; where it is off, it stays off
+  pub popf : Effect Popf (record before { ac = true }) (record before { rsp = 0x8010; ac = false })
+  pub popf_leaves : Effect Popf (record before { ac = true }) (record before { rsp = 0x8010; ac = true })
+  pub popf_off : Effect Popf before (record before { rsp = 0x8010 })
+  pub popf_turns_on : Effect Popf before (record before { rsp = 0x8010; ac = true }) → ⊥
   pub add_sp : Effect (AddSp (negsuc 7)) before (record before { rsp = 0x8000 })
   pub and_sp : Effect (AndSp (negsuc 15)) before (record before { rsp = 0x8000 })
   pub lea_sp_bp : Effect (LeaSpBp (pos 8)) before (record before { rsp = 0x8018 })
