@@ -9,7 +9,7 @@ _objtool() {
     fi
     # the options of a command, and how many names of files it has
     case ${COMP_WORDS[1]} in
-    check) files=2 options='--fp --retpoline --rethunk --uaccess --no-unreachable --backtrace --all-opcodes --names= ' ;;
+    check) files=2 options='--fp --retpoline --rethunk --uaccess --no-unreachable --link --module --backtrace --all-opcodes --names= ' ;;
     sites | cfi) files=2 options='--all-opcodes --names= ' ;;
     entry) files=1 options='--noinstr --sls --ibt --all-opcodes --names= ' ;;
     show) files=1 options='--function= --all-opcodes --names= ' ;;

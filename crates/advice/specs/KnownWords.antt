@@ -20,8 +20,8 @@ AreCommands = (word : Word) → is_some (command_named word) ≡ list_any (λ kn
 -- the options of a command, those that have a value as they begin
 abbrev pub option_words : CommandWord → List Word
 option_words the.Check =
-    codes "--fp" ∷ codes "--retpoline" ∷ codes "--rethunk" ∷ codes "--uaccess" ∷ codes "--no-unreachable" ∷ codes "--backtrace"
-    ∷ codes "--all-opcodes" ∷ codes "--names=" ∷ []
+    codes "--fp" ∷ codes "--retpoline" ∷ codes "--rethunk" ∷ codes "--uaccess" ∷ codes "--no-unreachable" ∷ codes "--link" ∷ codes "--module"
+    ∷ codes "--backtrace" ∷ codes "--all-opcodes" ∷ codes "--names=" ∷ []
 option_words the.Sites = codes "--all-opcodes" ∷ codes "--names=" ∷ []
 option_words the.Cfi = codes "--all-opcodes" ∷ codes "--names=" ∷ []
 option_words the.Entry = codes "--noinstr" ∷ codes "--sls" ∷ codes "--ibt" ∷ codes "--all-opcodes" ∷ codes "--names=" ∷ []

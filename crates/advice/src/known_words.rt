@@ -30,6 +30,8 @@ pub(crate) fn option_words(first: &str) -> &'static [&'static str]
             "--rethunk",
             "--uaccess",
             "--no-unreachable",
+            "--link",
+            "--module",
             "--backtrace",
             "--all-opcodes",
             "--names=",

@@ -104,13 +104,15 @@ check_files (input ∷ (output ∷ [])) words meant e = record {
   says = λ rows each values files. subst (Says (Some (codes "check", rows))) (some_is _ meant e) (
     refl,
     record {
-      rewriting = rewriting_said rows input output words files values.first each.rest.rest.rest.rest.rest.rest.first;
+      rewriting = rewriting_said rows input output words files values.first each.rest.rest.rest.rest.rest.rest.rest.rest.first;
       fp = each.first;
       retpoline = each.rest.first;
       rethunk = each.rest.rest.first;
       uaccess = each.rest.rest.rest.first;
       unreachable = subst (SaysSwitch rows (codes "no-unreachable")) (not_not (gives (codes "--no-unreachable") words)) each.rest.rest.rest.rest.first;
-      backtrace = each.rest.rest.rest.rest.rest.first;
+      link = each.rest.rest.rest.rest.rest.first;
+      «module» = each.rest.rest.rest.rest.rest.rest.first;
+      backtrace = each.rest.rest.rest.rest.rest.rest.rest.first;
     },
   );
 }

@@ -49,6 +49,14 @@ check_no_unreachable : HasSwitch C names_alone (codes "no-unreachable")
 unfolding clap_on_literals
 check_no_unreachable = record { walks = λ h position. refl; passes = λ h position. refl; is_used = λ rows absent. set_appends (rule_named C (codes "no-unreachable")) (codes "true" ∷ []) rows absent; settles = λ h. refl; rows_are = λ h. refl; id = refl; no_input = refl; no_output = refl; not_input = λ word. refl; not_output = λ word. refl; apart = record { first = record { gives_no_value = refl; no_row = refl; not_row = λ value. refl; not_word = λ value. refl }; rest = tt }; says = elim [ true ↦ refl | false ↦ refl ] }
 
+check_link : HasSwitch C names_alone (codes "link")
+unfolding clap_on_literals
+check_link = record { walks = λ h position. refl; passes = λ h position. refl; is_used = λ rows absent. set_appends (rule_named C (codes "link")) (codes "true" ∷ []) rows absent; settles = λ h. refl; rows_are = λ h. refl; id = refl; no_input = refl; no_output = refl; not_input = λ word. refl; not_output = λ word. refl; apart = record { first = record { gives_no_value = refl; no_row = refl; not_row = λ value. refl; not_word = λ value. refl }; rest = tt }; says = elim [ true ↦ refl | false ↦ refl ] }
+
+check_module : HasSwitch C names_alone (codes "module")
+unfolding clap_on_literals
+check_module = record { walks = λ h position. refl; passes = λ h position. refl; is_used = λ rows absent. set_appends (rule_named C (codes "module")) (codes "true" ∷ []) rows absent; settles = λ h. refl; rows_are = λ h. refl; id = refl; no_input = refl; no_output = refl; not_input = λ word. refl; not_output = λ word. refl; apart = record { first = record { gives_no_value = refl; no_row = refl; not_row = λ value. refl; not_word = λ value. refl }; rest = tt }; says = elim [ true ↦ refl | false ↦ refl ] }
+
 check_backtrace : HasSwitch C names_alone (codes "backtrace")
 unfolding clap_on_literals
 check_backtrace = record { walks = λ h position. refl; passes = λ h position. refl; is_used = λ rows absent. set_appends (rule_named C (codes "backtrace")) (codes "true" ∷ []) rows absent; settles = λ h. refl; rows_are = λ h. refl; id = refl; no_input = refl; no_output = refl; not_input = λ word. refl; not_output = λ word. refl; apart = record { first = record { gives_no_value = refl; no_row = refl; not_row = λ value. refl; not_word = λ value. refl }; rest = tt }; says = elim [ true ↦ refl | false ↦ refl ] }
@@ -95,7 +103,7 @@ check_names = record {
 }
 
 abbrev pub check_switches : List Text
-check_switches = codes "fp" ∷ (codes "retpoline" ∷ (codes "rethunk" ∷ (codes "uaccess" ∷ (codes "no-unreachable" ∷ (codes "backtrace" ∷ (codes "all-opcodes" ∷ []))))))
+check_switches = codes "fp" ∷ (codes "retpoline" ∷ (codes "rethunk" ∷ (codes "uaccess" ∷ (codes "no-unreachable" ∷ (codes "link" ∷ (codes "module" ∷ (codes "backtrace" ∷ (codes "all-opcodes" ∷ []))))))))
 
 pub check_facts : HasOptions C true names_alone check_switches
 unfolding clap_on_literals
@@ -106,7 +114,7 @@ check_facts = record {
   output_id = refl;
   input_default = refl;
   output_default = refl;
-  each = record { first = check_fp; rest = record { first = check_retpoline; rest = record { first = check_rethunk; rest = record { first = check_uaccess; rest = record { first = check_no_unreachable; rest = record { first = check_backtrace; rest = record { first = check_all_opcodes; rest = tt } } } } } } };
+  each = record { first = check_fp; rest = record { first = check_retpoline; rest = record { first = check_rethunk; rest = record { first = check_uaccess; rest = record { first = check_no_unreachable; rest = record { first = check_link; rest = record { first = check_module; rest = record { first = check_backtrace; rest = record { first = check_all_opcodes; rest = tt } } } } } } } } };
   each_value = record { first = check_names; rest = tt };
   level = λ words. refl;
 }

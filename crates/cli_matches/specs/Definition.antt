@@ -60,6 +60,8 @@ check_app =
     let app = with_rule app (switch_rule (codes "rethunk")) in
     let app = with_rule app (switch_rule (codes "uaccess")) in
     let app = with_rule app (switch_rule (codes "no-unreachable")) in
+    let app = with_rule app (switch_rule (codes "link")) in
+    let app = with_rule app (switch_rule (codes "module")) in
     let app = with_rule app (switch_rule (codes "backtrace")) in
     with_common_options app
 

@@ -40,6 +40,8 @@ pub record SaysCheck (rows : List Row) (input output : Word) (options : CheckOpt
   pub rethunk : SaysSwitch rows (codes "rethunk") options.rules.rethunk
   pub uaccess : SaysSwitch rows (codes "uaccess") options.rules.uaccess
   pub unreachable : SaysSwitch rows (codes "no-unreachable") (not options.rules.unreachable)
+  pub link : SaysSwitch rows (codes "link") options.rules.link
+  pub «module» : SaysSwitch rows (codes "module") options.rules.module
   pub backtrace : SaysSwitch rows (codes "backtrace") options.backtrace
 
 -- the matches of `entry` say this

@@ -41,6 +41,8 @@ help_text =
     ++ codes "      --rethunk         Check that no return instruction is left outside listed places\n"
     ++ codes "      --uaccess         Check that user access is off outside of listed functions\n"
     ++ codes "      --no-unreachable  Don't check that each instruction is reached\n"
+    ++ codes "      --link            Let code that a linker left without a symbol stand unreached\n"
+    ++ codes "      --module          Take the object for part of a module, so that .init.text counts too\n"
     ++ codes "      --backtrace       Print where each warning is and how control came there\n"
     ++ codes "      --all-opcodes     Read vector, virtualization and newer system instructions too\n"
     ++ codes "      --names=<FILE>    Add the function names of FILE to the lists that are built in\n"

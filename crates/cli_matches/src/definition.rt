@@ -242,6 +242,18 @@ pub fn check<'a>(alloc: Global) -> Result<Command<'a>, AllocError>
     let check = with_switch(
         alloc,
         check,
+        "link",
+        "Let code that a linker left without a symbol stand unreached",
+    );
+    let check = with_switch(
+        alloc,
+        check,
+        "module",
+        "Take the object for part of a module, so that .init.text counts too",
+    );
+    let check = with_switch(
+        alloc,
+        check,
         "backtrace",
         "Print where each warning is and how control came there",
     );

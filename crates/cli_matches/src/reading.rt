@@ -58,6 +58,8 @@ fn rules_of(found: &ArgMatches<'_>) -> Options
         rethunk: is_given(found, "rethunk"),
         uaccess: is_given(found, "uaccess"),
         unreachable: !is_given(found, "no-unreachable"),
+        link: is_given(found, "link"),
+        module: is_given(found, "module"),
     }
 }
 

@@ -43,6 +43,8 @@ Options:
       --rethunk         Check that no return instruction is left outside listed places
       --uaccess         Check that user access is off outside of listed functions
       --no-unreachable  Don't check that each instruction is reached
+      --link            Let code that a linker left without a symbol stand unreached
+      --module          Take the object for part of a module, so that .init.text counts too
       --backtrace       Print where each warning is and how control came there
       --all-opcodes     Read vector, virtualization and newer system instructions too
       --names=<FILE>    Add the function names of FILE to the lists that are built in

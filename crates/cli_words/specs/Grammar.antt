@@ -97,7 +97,8 @@ unfoldable pub first_fault : CommandWord → List Word → List Word → Option 
 first_fault command before [] = None
 first_fault command before (word ∷ rest) = or_else (word_fault command before word) (length before + 1) (first_fault command (before ++ word ∷ []) rest)
 
--- the rules that the options of `check` ask for; rule 14 is asked for unless an option says no
+-- the rules that the options of `check` ask for, and what they take the object for; rule 14 is asked for unless an
+-- option says no
 abbrev pub rules_in : List Word → Options
 rules_in words = record {
   fp = gives (codes "--fp") words;
@@ -105,6 +106,8 @@ rules_in words = record {
   rethunk = gives (codes "--rethunk") words;
   uaccess = gives (codes "--uaccess") words;
   unreachable = not (gives (codes "--no-unreachable") words);
+  link = gives (codes "--link") words;
+  «module» = gives (codes "--module") words;
 }
 
 -- the opcode map that they ask for: the base map, unless an option asks for the whole one
@@ -115,7 +118,7 @@ map_in words = if gives (codes "--all-opcodes") words then Whole else Base
 abbrev pub options_in : List Word → CheckOptions
 options_in words = record { map = map_in words; rules = rules_in words; backtrace = gives (codes "--backtrace") words }
 
--- the entry rules that the options of `entry` ask for
+-- the entry rules that the options of `entry` name
 abbrev pub entry_rules_in : List Word → EntryRules
 entry_rules_in words = record {
   noinstr = gives (codes "--noinstr") words;

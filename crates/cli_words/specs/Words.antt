@@ -74,7 +74,9 @@ is_check_option word =
     || (bytes_eq word (codes "--rethunk")
     || (bytes_eq word (codes "--uaccess")
     || (bytes_eq word (codes "--no-unreachable")
-    || (bytes_eq word (codes "--backtrace") || is_common_option word)))))
+    || (bytes_eq word (codes "--link")
+    || (bytes_eq word (codes "--module")
+    || (bytes_eq word (codes "--backtrace") || is_common_option word)))))))
 
 -- the options of `entry`
 abbrev pub is_entry_option : Word → Bool

@@ -99,8 +99,8 @@ fn word_fault(command: CommandWord, before: &[String], word: &str) -> Option<Usa
 }
 
 /// The first of the words behind a command that is at fault, counted from the command's word, which is 0,
-/// and what is wrong with it. At most ten words are passed, since no option stands twice, so it looks at
-/// few words for each.
+/// and what is wrong with it. At most twelve words are passed, since no option stands twice, so it looks
+/// at few words for each.
 pub(crate) fn first_fault(command: CommandWord, words: &[String]) -> Option<(u64, UsageKind)>
     ensures { result ≡ first_fault command [] (map string_bytes words.now) }
 {

@@ -6,13 +6,13 @@ use x86_map::Map;
 pub struct CheckOptions {
     /// The opcode map by which code is read.
     pub map: Map,
-    /// The rules that are looked at besides those that always are.
+    /// The rules that are looked at besides those that always are, and what the object is taken for.
     pub rules: Options,
     /// Behind each warning it is printed where it is and how control came there.
     pub backtrace: bool,
 }
 
-/// Which entry rules the options of `entry` ask for.
+/// Which entry rules the options of `entry` name.
 #[derive(Clone, Copy, PartialEq, Eq)]
 pub struct EntryRules {
     /// Code that isn't instrumented calls no code that is.

@@ -134,7 +134,7 @@ fn is_check_option(word: &str) -> bool
 {
     match word {
         "--fp" | "--retpoline" | "--rethunk" | "--uaccess" => true,
-        "--no-unreachable" | "--backtrace" => true,
+        "--no-unreachable" | "--link" | "--module" | "--backtrace" => true,
         _ => is_common_option(word),
     }
 }

@@ -8,5 +8,7 @@ returns c =
     let rethunk = c.with_switch-check-3.ensures _ retpoline in
     let uaccess = c.with_switch-check-4.ensures _ rethunk in
     let unreachable = c.with_switch-check-5.ensures _ uaccess in
-    let backtrace = c.with_switch-check-6.ensures _ unreachable in
+    let link = c.with_switch-check-6.ensures _ unreachable in
+    let of_module = c.with_switch-check-7.ensures _ link in
+    let backtrace = c.with_switch-check-8.ensures _ of_module in
     c.with_common_options.ensures _ backtrace
