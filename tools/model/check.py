@@ -25,7 +25,7 @@ ORC_SECTIONS = (b".orc_unwind", b".orc_unwind_ip", b".rela.orc_unwind_ip")
 @remembered
 def graph_of(object: Object, names: Names, whole: bool = False) -> Flow:
     """The control-flow graph of the object's code, which the base map or the whole one reads. Raises Refused."""
-    return Flow(*read_code(object, whole), names)
+    return Flow(*read_code(object, whole, names), names)
 
 
 def check(data: bytes, options: Options = Options(), names_file: Optional[bytes] = None) -> Answer:
@@ -46,7 +46,7 @@ def check(data: bytes, options: Options = Options(), names_file: Optional[bytes]
 
 
 def options_of(words: list[str]) -> Options:
-    given = {name: f"--{name}" in words for name in ("fp", "retpoline", "rethunk", "uaccess")}
+    given = {name: f"--{name}" in words for name in ("fp", "retpoline", "rethunk", "uaccess", "link", "module")}
     return Options(**given, unreachable="--no-unreachable" not in words, all_opcodes="--all-opcodes" in words)
 
 

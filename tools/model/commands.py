@@ -5,10 +5,11 @@ from typing import NamedTuple, Optional
 import elf
 import special
 from elf import MOST_SECTIONS, MOST_SYMBOLS, Object, Place
-from flow import check_places
 from functions import Functions
 from instructions import Code
+from labels import spans_named
 from names import Names
+from points import check_places
 from remembered import remembered
 from sites import Sites
 from special import Special
@@ -50,10 +51,10 @@ class ReadCode(NamedTuple):
 
 
 @remembered
-def read_code(object: Object, whole: bool) -> ReadCode:
+def read_code(object: Object, whole: bool, names: Names) -> ReadCode:
     """The object's code, in order up to the lists of places. Raises Refused."""
     code = Code(object, whole)
-    entries = special.read(object)
+    entries = special.read(object, spans_named(object, names.loose))
     functions = Functions(object)
     sites = Sites(code, entries)
     check_places(code, entries, functions, sites)

@@ -312,8 +312,9 @@ def read_relocs(data: bytes, headers: list[Header], symbols: int) -> dict[int, l
         entries = []
         for j, (offset, info, addend) in enumerate(ENTRY.iter_unpack(body_of(data, header))):
             reloc = Reloc(offset, info & 0xFFFF_FFFF, info >> 32, addend)
-            field = FIELD_BYTES.get(reloc.kind)
-            outside = field is not None and offset + field > headers[header.info].size
+            field, filled = FIELD_BYTES.get(reloc.kind), headers[header.info]
+            # (what a compressed section holds isn't read)
+            outside = field is not None and not filled.flags & COMPRESSED and offset + field > filled.size
             if reloc.sym >= symbols or outside:
                 raise Refused(f"section {i}: bad relocation {j}")
             entries.append(reloc)

@@ -9,12 +9,11 @@ from elf import Object, Place
 from functions import Functions
 from instructions import Code
 from names import Names
-from opcodes import Insn
+from points import Points
 from returns import returning
 from sites import Point, Sites
-from special import CALL, END_OF_STACK, FUNC, RESTORE, SAVE, UNDEFINED, Hint, Special
+from special import CALL, END_OF_STACK, FUNC, REGS, REGS_PARTIAL, UNDEFINED, Special
 from tables import JumpTables
-from texts import Refused
 
 NEXT, TAKEN, FIXUP, TABLE, SIBLING = "Next", "Taken", "Fixup", "Table", "Sibling"
 
@@ -37,182 +36,25 @@ class Role(NamedTuple):
 
 
 PLAIN = Role("Plain")
-# The operations by a number: how far rsp or rbp moves, what rsp is masked with, or where rbp is saved or loaded.
-STACK_OFFSETS = "AddSp", "AndSp", "LeaSpBp", "LeaBpSp", "LeaBpRoom", "StoreBp", "LoadBp"
-# The operations that make room by a register.
-ROOM = "SubSp", "SpReg"
-
-
-def check_places(code: Code, special: Special, functions: Functions, sites: Sites) -> None:
-    """Raises Refused at the first function that starts between instructions, and the first entry that names no instruction."""
-    for function in functions.list:
-        if not code.is_boundary(function.start) or sites.is_inside(function.start):
-            raise Refused(f"symbol {function.sym}: bad function")
-    starts = code.is_boundary
-    ends = lambda place: code.is_boundary_or_end(place) and place.off != 0
-    lists = [
-        ([branch.code for branch in special.branches], starts),
-        ([entry.insn for entry in special.fixes], starts),
-        ([hint.place for hint in special.hints], starts),
-        (special.reachable, ends),
-        (special.unreachable, ends),
-        (special.safe_branches, starts),
-        (special.intra_calls, starts),
-    ]
-    for number, (places, good) in enumerate(lists, 1):
-        for entry, place in enumerate(places):
-            if not good(place):
-                raise Refused(f"list {number}: entry {entry}: not a boundary")
-    for entry, branch in enumerate(special.branches):
-        if code.insn(branch.code).op not in ("Nop", "Jmp"):
-            raise Refused(f"static branch {entry}: not a site")
-    for entry, place in enumerate(special.intra_calls):
-        if code.insn(place).op != "Call":
-            raise Refused(f"intra call {entry}: not a call")
-    for entry, place in enumerate(special.unchecked):
-        if place not in functions.at_start:
-            raise Refused(f"unchecked {entry}: not a function")
-
-
-class Flow:
+class Flow(Points):
     """The graph. Each attribute that is a dict has the points for its keys; each that is a set has those of which it holds."""
 
     def __init__(self, object: Object, code: Code, special: Special, functions: Functions, sites: Sites, names: Names):
-        self.object, self.code, self.special, self.functions, self.sites, self.names = object, code, special, functions, sites, names
-        self.points: list[Point] = sites.points
-        self.address: dict[Point, Place] = {point: sites.address(point) for point in self.points}
-        self.owner: dict[Point, Optional[int]] = {point: functions.owner_at(at) for point, at in self.address.items()}
-        self.unchecked_owners = {functions.owner_of(functions.at_start[place]) for place in special.unchecked}
+        super().__init__(object, code, special, functions, sites, names)
         self.tables = JumpTables(object, code, functions, sites)
-        self._by_place()
-        self.hint_at: dict[Point, Hint] = {point: hint for point in self.points if (hint := self._own(point, self.hints)) is not None}
-        self.restores: set[Point] = {point for point, hint in self.hint_at.items() if hint.kind == RESTORE}
-        self.entries: list[Place] = [f.start for f in functions.list if self.is_entry(f.start)]
-        # The points behind each, None at a section's end.
-        self.after: dict[Point, Optional[list[Point]]] = {point: sites.next_points(point) for point in self.points}
-        self.roomy = {self.owner[point] for point in self.points if sites.insn(point).op in ROOM} - {None}
-        self.insn: dict[Point, Insn] = {point: self._insn_of(point) for point in self.points}
-        self.dead_ends: set[Point] = {point for point in self.points if self._is_dead_end(point)}
-
         # Those to the next instruction come last, but otherwise they stand as docs/FORMATS.md lists them.
         self.edges: dict[Point, list[Edge]] = {point: [] for point in self.points}
         self.role: dict[Point, Role] = {}
-        # What rules 1, 3, 13, 16 and 19 ask of a kept point.
+        # What rules 1, 3, 13 and 16 ask of a kept point.
         self.bad: set[Point] = set()
         self.past_end: set[Point] = set()
         self.into_site: set[Point] = set()
         self.into_function: set[Point] = set()
-        self.relocated: set[Point] = {point for point in self.points if self._is_relocated(point)}
         for point in self.points:
             self.role[point] = self._follow(point)
         self.may_return: set[Point] = returning(self)
         for point in self.points:
             self._follow_next(point)
-
-    def _by_place(self) -> None:
-        """What the special sections say of each place."""
-        self.hints: dict[Place, Hint] = {hint.place: hint for hint in self.special.hints}
-        self.static_targets: dict[Place, list[Place]] = {}
-        for branch in self.special.branches:
-            self.static_targets.setdefault(branch.code, []).append(branch.target)
-        self.fixups: dict[Place, list[Place]] = {}
-        for entry in self.special.fixes:
-            self.fixups.setdefault(entry.insn, []).append(entry.fixup)
-        self.reachable, self.unreachable = set(self.special.reachable), set(self.special.unreachable)
-        self.intra_calls: dict[Place, bool] = {place: True for place in self.special.intra_calls}
-
-    # Functions
-
-    def is_unchecked(self, owner: Optional[int]) -> bool:
-        return owner in self.unchecked_owners
-
-    def is_entry(self, place: Place) -> bool:
-        """Whether a function starts there that is neither a part nor unchecked."""
-        function = self.functions.at_start.get(place)
-        return function is not None and not self.functions.is_part(function) and not self._is_unchecked_function(function)
-
-    def _is_unchecked_function(self, function: int) -> bool:
-        return self.is_unchecked(self.functions.owner_of(function))
-
-    def _unchecked_symbol(self, place: Place) -> Optional[int]:
-        """The symbol of the unchecked function that starts there."""
-        function = self.functions.at_start.get(place)
-        return self.functions.list[function].sym if function is not None and self._is_unchecked_function(function) else None
-
-    # Instructions
-
-    def _insn_of(self, point: Point) -> Insn:
-        """The instruction, as what stands around it has it be.
-
-        A call that is listed as one within its function only pushes; rbp becomes a base over room in a function that makes some; an
-        iret with instructions of its own function right behind it goes on there; and so does another way out, where hints there tell
-        the stack.
-        """
-        insn = self.sites.insn(point)
-        if insn.op == "Call" and self._own(point, self.intra_calls):
-            return insn._replace(op="Hop")
-        if insn.op == "LeaBpSp" and self.owner[point] in self.roomy:
-            return insn._replace(op="LeaBpRoom")
-        if insn.op == "Iret" and self._is_within(point):
-            return insn._replace(op="IretNext")
-        if insn.op == "Switch" and self._is_within(point) and all(self._tells_frame(other) for other in self.after[point]):
-            return insn._replace(op="SpOther")
-        return insn
-
-    def _is_within(self, point: Point) -> bool:
-        """Whether instructions of its own function stand right behind it."""
-        owner, after = self.owner[point], self.after[point]
-        return owner is not None and after is not None and all(self.owner[other] == owner for other in after)
-
-    def _tells_frame(self, point: Point) -> bool:
-        hint = self.hint(point)
-        return hint is not None and hint.kind in (CALL, FUNC, RESTORE)
-
-    def _is_relocated(self, point: Point) -> bool:
-        """Whether a relocation of any type but 0 begins at a byte of an instruction that moves the stack by a number."""
-        insn = self.insn[point]
-        if insn.op not in STACK_OFFSETS:
-            return False
-        fields = (self.object.relocs_at(Place(point.place.sec, point.place.off + at)) for at in range(insn.length))
-        return any(reloc.kind != 0 for relocs in fields for reloc in relocs)
-
-    def _is_dead_end(self, point: Point) -> bool:
-        insn = self.insn[point]
-        if insn.op != "Ud2" and not self.unreachable or self.sites.is_padding(point):
-            return False
-        end = Place(point.place.sec, point.place.off + insn.length)
-        return (insn.op == "Ud2" or end in self.unreachable) and end not in self.reachable
-
-    def is_call(self, point: Point) -> bool:
-        return self.insn[point].op in ("Call", "CallInd")
-
-    def _own(self, point: Point, by_place: dict):
-        """What the table has for the point's own place; padding has none."""
-        found = by_place.get(point.place)
-        return None if found is None or self.sites.is_padding(point) else found
-
-    # Hints
-
-    def hint(self, point: Point) -> Optional[Hint]:
-        return self.hint_at.get(point)
-
-    def is_restore(self, point: Point) -> bool:
-        return point in self.restores
-
-    def is_save(self, point: Point) -> bool:
-        hint = self.hint(point)
-        return hint is not None and hint.kind == SAVE
-
-    def saves(self) -> dict[Point, Point]:
-        """For each RESTORE the SAVE whose state it takes up: of its owner, at the greatest address below its own, of the least variant."""
-        saves = [point for point in self.hint_at if self.is_save(point)]
-        found = {}
-        for point in filter(self.is_restore, self.hint_at):
-            at = self.address[point]
-            fitting = [s for s in saves if self.owner[s] == self.owner[point] and self.address[s].sec == at.sec and self.address[s].off < at.off]
-            if fitting:
-                found[point] = max(fitting, key=lambda save: (self.address[save].off, -save.variant))
-        return found
 
     def is_before_hint(self, point: Point) -> bool:
         """Whether all edges but those to fixups lead to points where a hint sets or restores the state, and there is one."""
@@ -220,9 +62,15 @@ class Flow:
         return bool(heads) and all(self.hint(head) is not None and not self.is_save(head) for head in heads)
 
     def may_leave(self, point: Point) -> bool:
-        """Whether code of no function goes out of the code that is checked, whatever its stack is."""
+        """Whether code of no function, or loose code, goes out of the code that is checked, whatever its stack is."""
         leaves = self.role[point].kind in ("Return", "JumpOut", "JumpAny") and self.insn[point].op != "RetImm"
-        return self.owner[point] is None and leaves and all(edge.kind != SIBLING for edge in self.edges[point])
+        stays_in = any(edge.kind == SIBLING for edge in self.edges[point])
+        return (self.owner[point] is None or point in self.loose) and (leaves and not stays_in or self.is_joined(point))
+
+    def is_joined(self, point: Point) -> bool:
+        """Whether the point names the function to whose entry it goes, which may have stood in another file, and goes nowhere else."""
+        kinds = {edge.kind for edge in self.edges[point]}
+        return SIBLING in kinds and kinds <= {SIBLING, NEXT} and self.named(point) is not None
 
     # Edges
 
@@ -232,9 +80,9 @@ class Flow:
         First comes where its branch goes, then its static branches, its exception entries, and the entries of its jump table.
         """
         role = self._role(point)
-        for place in self._own(point, self.static_targets) or []:
+        for place in self.own(point, self.static_targets) or []:
             self._go(point, place, TAKEN)
-        for place in self._own(point, self.fixups) or []:
+        for place in self.own(point, self.fixups) or []:
             self._go(point, place, FIXUP)
         self.edges[point].sort(key=lambda edge: edge.kind == TABLE)
         return role
@@ -278,7 +126,7 @@ class Flow:
         crossing = crosses and (here is None or there is None) and not self.is_unchecked(here) and not self.is_unchecked(there)
         sibling = here != there and self.is_entry(place)
         allowed = here == there or sibling or crossing
-        if not self.code.is_boundary(place) or self._unchecked_symbol(place) is not None or not allowed:
+        if not self.code.is_boundary(place) or self.unchecked_symbol(place) is not None or not allowed:
             self.bad.add(point)
         elif self._enters_site(point, place):
             self.into_site.add(point)
@@ -305,14 +153,12 @@ class Flow:
         end = entry.replacement.off + entry.replacement_len
         return self.sites.site_of(point).end if off == end else None
 
-    def _is_local(self, point: Point) -> bool:
-        insn = self.insn[point]
-        field = Place(point.place.sec, point.place.off + insn.length - (4 if insn.wide else 1))
-        return point.variant > 0 and not self.object.relocs_at(field)
-
     def _follow_branch(self, point: Point) -> Role:
-        if self._is_local(point):
+        if self.is_local(point):
             return self._follow_local_branch(point)
+        found = self.returning.get(point)
+        if found is not None and (self.sites.insn(point).op == "Call" or not found.at_boundary):
+            return Role("JumpOut", None, found.sym)
         target = self.functions.branch_target(point.place, self.insn[point])
         if target.kind == "bad":
             self.bad.add(point)
@@ -328,7 +174,7 @@ class Flow:
 
     def _branch_to(self, point: Point, place: Place, weak: Optional[int], crosses: bool = True) -> Role:
         """A branch to a place. What is unchecked or weak is outside, or may be."""
-        unchecked = self._unchecked_symbol(place)
+        unchecked = self.unchecked_symbol(place)
         if unchecked is not None:
             return Role("JumpOut", None, unchecked)
         self._go(point, place, TAKEN, crosses)
@@ -346,7 +192,7 @@ class Flow:
 
     def _follow_hop(self, point: Point) -> None:
         """A call within a function goes to a place of it as a jump does, and nowhere else."""
-        if self._is_local(point):
+        if self.is_local(point):
             target = self._local(point)
             if isinstance(target, Place):
                 self._hop_to(point, target, crosses=False)
@@ -368,15 +214,23 @@ class Flow:
             self._go(point, place, TAKEN, crosses)
 
     def _may_call(self, point: Point, place: Place) -> bool:
-        """Whether code of no function may call a place of no function: one in no site, at which a hint tells a call's frame, or ends
-        the stack."""
-        hint = self.hints.get(place)
-        hinted = hint is not None and hint.kind in (UNDEFINED, END_OF_STACK, CALL, FUNC)
-        ownerless = self.owner[point] is None and self.functions.owner_at(place) is None
-        return ownerless and hinted and self.sites.site_at(place) is None
+        """Whether code may call a place of no function: where a hint tells a call's frame, or ends the stack, whichever variant of a site
+        stands there. Code of no function may; a function does it by a symbol's name."""
+        calls = self.owner[point] is None or not self.is_unchecked(self.owner[point]) and self.named(point) is not None
+        return calls and not self.sites.is_inside(place) and all(self._may_be_called(head) for head in self.sites.arrive(place))
+
+    def _may_be_called(self, point: Point) -> bool:
+        hint = self.hint(point)
+        return self.owner[point] is None and hint is not None and hint.kind in (UNDEFINED, END_OF_STACK, CALL, FUNC)
+
+    def _is_gate(self, place: Place) -> bool:
+        """Whether code of no function stands there, at which a hint tells an interrupt's frame."""
+        point = Point(place, 0)
+        hint = self.hint(point)
+        return self.owner[point] is None and hint is not None and hint.kind in (REGS, REGS_PARTIAL)
 
     def _follow_call(self, point: Point) -> Role:
-        if self._is_local(point):
+        if self.is_local(point):
             target = self._local(point)
             if isinstance(target, Point):
                 padding = self.sites.is_padding(target)
@@ -396,7 +250,7 @@ class Flow:
         return PLAIN
 
     def _call(self, point: Point, place: Place, weak: Optional[int], local: bool = False) -> Role:
-        unchecked = self._unchecked_symbol(place)
+        unchecked = self.unchecked_symbol(place)
         if not self.code.is_boundary(place):
             self.bad.add(point)
             return PLAIN
@@ -404,6 +258,9 @@ class Flow:
             return Role("CallOut", None, unchecked)
         if self.is_entry(place) or self._may_call(point, place):
             return Role("CallIn", place) if weak is None else Role("CallEither", place, weak)
+        named = self.named(point)
+        if self.owner[point] is not None and named is not None and self._is_gate(place):
+            return Role("CallOut", None, named)
         if not local and self._enters_site(point, place):
             self.into_site.add(point)
         return self._call_middle(point)
@@ -414,19 +271,24 @@ class Flow:
 
     # What comes after a point
 
-    def is_listed(self, role: Role) -> bool:
-        """Whether a call names something that is listed as never returning: by its symbol, or by the function that it enters."""
-        if not role.kind.startswith("Call"):
+    def is_listed(self, point: Point) -> bool:
+        """Whether a call names something that is listed as never returning: by its symbol, or by the function that it enters; and no mark
+        says that control comes behind it."""
+        role = self.role[point]
+        if not role.kind.startswith("Call") or point in self.marked:
             return False
         function = self.functions.at_start.get(role.entry)
         names = [self.functions.name(function)] if function is not None else []
-        names += [self.object.symbols[role.sym].name] if role.sym is not None else []
+        symbols = [role.sym] + ([self.named(point)] if role.entry is not None and function is None else [])
+        names += [self.object.symbols[sym].name for sym in symbols if sym is not None]
         return any(name in self.names.never_return for name in names)
 
     def target_may_return(self, point: Point, found: set[Point]) -> bool:
         """Whether what a call calls may return, where the points that may return are those found."""
         role = self.role[point]
-        if self.is_listed(role):
+        if point in self.marked:
+            return True
+        if self.is_listed(point):
             return False
         if role.kind == "CallIn":
             return any(head in found for head in self.sites.arrive(role.entry))
@@ -434,7 +296,7 @@ class Flow:
 
     def may_go_on(self, point: Point) -> bool:
         """Whether the point has a Next, if it is no call that can't return."""
-        if self._own(point, self.static_targets):
+        if self.own(point, self.static_targets):
             return True
         stops = self.insn[point].op in ("Jmp", "JmpInd", "Hop", "Ret", "RetImm", "Switch", "Iret")
         return not stops and point not in self.dead_ends

@@ -1,5 +1,5 @@
-"""The names of functions that never return, of those that may be called while user access is on, of those that are checked as far as
-they can be followed, and of those that switch tasks."""
+"""Names that tell of code: functions that never return, those that may be called while user access is on, code that is checked as far as
+it goes, code that switches tasks, and code that returns for its caller."""
 
 from texts import Refused
 
@@ -7,22 +7,24 @@ NEVER_RETURN = (
     b"panic do_exit make_task_dead kthread_exit __stack_chk_fail fortify_panic usercopy_abort "
     b"__ubsan_handle_builtin_unreachable stop_this_cpu cpu_startup_entry rewind_stack_and_make_dead "
     b"__fortify_panic __ia32_sys_exit __ia32_sys_exit_group __kunit_abort __module_put_and_kthread_exit "
-    b"__reiserfs_panic __tdx_hypercall_failed __x64_sys_exit __x64_sys_exit_group arch_cpu_idle_dead bch2_trans_in_restart_error "
+    b"__tdx_hypercall_failed __x64_sys_exit __x64_sys_exit_group arch_cpu_idle_dead bch2_trans_in_restart_error "
     b"bch2_trans_restart_error bch2_trans_unlocked_error cpu_bringup_and_idle do_group_exit do_task_dead "
     b"ex_handler_msr_mce hlt_play_dead hv_ghcb_terminate kthread_complete_and_exit kunit_try_catch_throw "
     b"machine_real_restart mpt_halt_firmware nmi_panic_self_stop panic_smp_self_stop rest_init rust_begin_unwind "
     b"rust_helper_BUG sev_es_terminate snp_abort start_kernel x86_64_start_kernel x86_64_start_reservations "
-    b"xen_cpu_bringup_again xen_start_kernel"
+    b"xen_cpu_bringup_again xen_start_kernel __reiserfs_panic"
 ).split()
 ACCESS_SAFE = (
     b"__fentry__ rep_movs_alternative rep_stos_alternative __copy_user_nocache copy_mc_fragile "
     b"copy_mc_enhanced_fast_string ftrace_likely_update"
 ).split()
 LOOSE = (
-    b"asm_exc_nmi entry_SYSCALL_compat return_to_handler rewind_stack_and_make_dead wakeup_long64 sev_verify_cbit "
-    b"sme_encrypt_execute restore_registers srso_alias_safe_ret"
+    b"asm_exc_nmi entry_SYSCALL_compat return_to_handler rewind_stack_and_make_dead wakeup_long64 "
+    b"sev_verify_cbit sme_encrypt_execute restore_registers srso_alias_safe_ret"
 ).split()
 SWITCHING = [b"__switch_to_asm"]
+# These are no list: a names file doesn't add to them.
+RETURNING = {b"srso_safe_ret", b"srso_alias_safe_ret", b"retbleed_return_thunk"}
 
 
 class Names:

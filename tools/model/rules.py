@@ -3,11 +3,16 @@
 from typing import NamedTuple, Optional
 
 from elf import FUNC, Place
+from labels import Uncovered, is_joined
 from remembered import remembered
 from rows import offset_that_does_not_fit, row_of, site_rows
 from sites import Point
-from states import INITIAL, Broken, Ended, Live, Regs, State, brought, kept_states, move, set_state
+from states import INITIAL, Broken, Ended, Live, Regs, State, brought, kept_states, loses_stack, move, set_state
 from uaccess import access_warnings
+
+
+# What a kernel runs before user space is there.
+INITIAL_CODE = b".init.text"
 
 
 class Options(NamedTuple):
@@ -18,6 +23,9 @@ class Options(NamedTuple):
     unreachable: bool = True
     # Whether the whole opcode map reads the code. It asks for no rule.
     all_opcodes: bool = False
+    # Whether a linker made the object, and whether it is part of a module.
+    link: bool = False
+    module: bool = False
 
 
 class Warning(NamedTuple):
@@ -46,7 +54,7 @@ def broken_rules(flow, options: Options) -> list[Warning]:
     """All warnings, sorted."""
     kept, found = kept_states(flow), set(broken_without_options(flow))
     if options.unreachable and not found:
-        found.update(unreachable_code(flow, kept))
+        found.update(unreachable_code(flow, kept, options.link or is_joined(flow.object)))
     if options.fp:
         found.update(Warning(point.place, 21) for point, state in kept.items() if call_without_frame(flow, point, state))
     found.update(thunk_warnings(flow, options))
@@ -85,7 +93,7 @@ def point_warnings(flow, point, state: State):
     try:
         move(state, insn)
     except Broken as broken:
-        if broken.rule != 7 or not flow.is_before_hint(point):
+        if not loses_stack(flow, point, broken) and (broken.rule != 7 or not flow.is_before_hint(point)):
             yield broken.rule,
     offset = offset_that_does_not_fit(row_of(state))
     if offset is not None:
@@ -149,11 +157,26 @@ def lost_restores(flow, kept: dict):
             yield Warning(point.place, 18)
 
 
-def unreachable_code(flow, kept: dict):
-    """Rule 14: the first instruction of each stretch of a function, or of code of none, that nothing comes to."""
+def parts_of_holes(flow, uncovered: Uncovered) -> set[int]:
+    """The parts to which holes jump."""
+    found = set()
+    for point in flow.points:
+        if point.variant == 0 and flow.functions.at(point.place) is None and uncovered.hold(point.place):
+            taken = {flow.functions.at(flow.address[edge.to]) for edge in flow.edges[point] if edge.kind == "Taken"} - {None}
+            found |= {function for function in taken if flow.functions.is_part(function)}
+    return found
+
+
+def unreachable_code(flow, kept: dict, has_holes: bool):
+    """Rule 14: the first instruction of each stretch of a function, or of code of none, that nothing comes to. What a linker dropped may
+    stand there, and the parts to which it jumps."""
+    uncovered = Uncovered(flow.object)
+    dropped = parts_of_holes(flow, uncovered) if has_holes else set()
 
     def is_lost(place: Optional[Place], function: Optional[int]) -> bool:
-        if place is None or flow.functions.at(place) != function:
+        if place is None or flow.functions.at(place) != function or function in dropped:
+            return False
+        if has_holes and function is None and uncovered.hold(place):
             return False
         if function is None and flow.object.sections[place.sec].name in (b".altinstr_replacement", b".altinstr_aux"):
             return False
@@ -189,7 +212,7 @@ def thunk_warnings(flow, options: Options):
     safe = set(flow.special.safe_branches)
     for point in flow.points:
         op = flow.insn[point].op
-        if point.place in safe:
+        if point.place in safe or not options.module and flow.object.sections[point.place.sec].name == INITIAL_CODE:
             continue
         if options.retpoline and op in ("CallInd", "JmpInd"):
             yield Warning(point.place, 31)

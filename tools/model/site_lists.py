@@ -60,8 +60,8 @@ def sites(data: bytes, whole: bool = False, names_file: Optional[bytes] = None) 
     """The answer of `sites`, with the lines that `list` prints of what it writes."""
 
     def answer() -> Answer:
-        object, _ = object_of(data, names_file)
-        read = read_code(object, whole)
+        object, names = object_of(data, names_file)
+        read = read_code(object, whole, names)
         refuse_sections(object, NAMES, "a site list", 6)
         lists = sites_of(read)
         return Answer(DONE, [], lines_of(object, lists), with_lists(object, lists))

@@ -9,6 +9,7 @@ import struct
 from typing import NamedTuple, Optional
 
 from elf import COMPRESSED, R_32, R_32S, R_64, R_PC32, Object, Place, Reloc, Section
+from labels import Spans
 from texts import Refused
 
 NAMING = (R_64, R_PC32, R_32, R_32S)
@@ -50,7 +51,9 @@ class Hint(NamedTuple):
 class Special:
     """The entries of each kind, in the order in which they are read."""
 
-    def __init__(self) -> None:
+    def __init__(self, loose: Spans) -> None:
+        # Code that is checked as far as it goes.
+        self.loose = loose
         self.alternatives: list[Alternative] = []
         self.branches: list[Branch] = []
         self.fixes: list[Fixup] = []
@@ -93,9 +96,9 @@ class Entry:
         return place
 
 
-def read(object: Object) -> Special:
-    """What the object's special sections say. Raises Refused at the first entry that is at fault."""
-    special = Special()
+def read(object: Object, loose: Spans) -> Special:
+    """What the object's special sections say, where this code is loose. Raises Refused at the first entry that is at fault."""
+    special = Special(loose)
     for name, size, read_entry in TABLES:
         for sec, section in named(object, name):
             not_compressed(object, sec, section)
@@ -157,9 +160,17 @@ def read_hint(special: Special, entry: Entry, body: bytes, at: int) -> None:
     sp_offset, sp_reg, kind, signal = struct.unpack_from("<hBBB", body, at + 4)
     place = entry.text(entry.naming(at))
     entry.ask(kind <= RESTORE, "HintType")
-    entry.ask(kind not in (CALL, REGS, REGS_PARTIAL) or sp_reg == SP, "HintBase")
-    entry.ask(sp_offset >= {CALL: 8, REGS: 0, REGS_PARTIAL: 0}.get(kind, sp_offset), "HintOffset")
-    entry.ask(signal == {CALL: 0, FUNC: 0, REGS: 1, REGS_PARTIAL: 1}.get(kind, signal), "HintSignal")
+    faults = {
+        "HintBase": kind in (CALL, REGS, REGS_PARTIAL) and sp_reg != SP,
+        "HintOffset": sp_offset < {CALL: 8, REGS: 0, REGS_PARTIAL: 0}.get(kind, sp_offset),
+        "HintSignal": signal != {CALL: 0, FUNC: 0, REGS: 1, REGS_PARTIAL: 1}.get(kind, signal),
+    }
+    if special.loose.hold(place):
+        # What such code says of a stack that can't be told is that nothing is known of it.
+        special.hints.append(Hint(place, sp_offset, UNDEFINED if any(faults.values()) else kind))
+        return
+    for why, is_met in faults.items():
+        entry.ask(not is_met, why)
     special.hints.append(Hint(place, sp_offset, kind))
 
 

@@ -208,15 +208,21 @@ def set_state(flow, point) -> Optional[State]:
     return hint_state(hint) if hint is not None else None
 
 
+def loses_stack(flow, point, broken: Broken) -> bool:
+    """Whether the stack is lost there without a warning: in loose code, by what is done to rsp or rbp."""
+    return point in flow.loose and broken.rule in (7, 8, 9, 11)
+
+
 def brought_along(flow, point, state: State):
     """What a point with this state brings along its edges: each edge, with the state in which control comes to its head.
 
-    An exception leaves the state as it was before the instruction. A Sibling edge leaves the function and brings nothing.
+    An exception leaves the state as it was before the instruction. A Sibling edge leaves the function and brings nothing. Loose code that
+    can't be followed ends the stack.
     """
     try:
         after = move(state, flow.insn[point])
-    except Broken:
-        after = None
+    except Broken as broken:
+        after = Ended(UNDEFINED) if loses_stack(flow, point, broken) else None
     for edge in flow.edges[point]:
         if edge.kind == "Fixup":
             yield edge, state

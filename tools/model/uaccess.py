@@ -40,7 +40,7 @@ def reached(flow) -> set[Access]:
     for entry in flow.entries:
         on = is_safe(flow, flow.functions.at_start[entry])
         starts.update(Access(point, on, on) for point in flow.sites.arrive(entry) if is_followed(flow, point))
-    starts.update(Access(point, False, False) for point in flow.points if flow.owner[point] is None and flow.hint(point))
+    starts.update(Access(point, False, False) for point in flow.own_hints if flow.owner[point] is None)
     found, waiting = set(starts), list(starts)
     while waiting:
         access = waiting.pop()
@@ -70,11 +70,11 @@ def access_warnings(flow):
         op = flow.insn[point].op
         if op == "Stac" and access.on:
             yield point.place, 44
-        if op == "Clac" and not access.on and not access.home:
+        if op == "Clac" and not access.on and not access.home and flow.owner[point] is not None:
             yield point.place, 45
         if op == "Clac" and access.home:
             yield point.place, 46
-        if op == "Popf":
+        if op == "Popf" and access.on:
             yield point.place, 47
 
 

@@ -323,7 +323,7 @@ WORKED = [
             [naming(3, 0, 0), naming(3, 4, 0, 2), naming(4, 0, 0)],
         ),
         {},
-        warned(".text+0x0: rule 18: restore without save"),
+        warned(".text+0x0: rule 18: restore without save", ".altinstr_replacement+0x0: rule 18: restore without save"),
     ),
     (
         "the end of code by a call that doesn't return",
