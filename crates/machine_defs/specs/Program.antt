@@ -55,8 +55,8 @@ pub record Program : Type 0 where
   -- Whether its section holds code to which control comes by patching alone: its name is `.altinstr_replacement` or
   -- `.altinstr_aux`.
   pub in_patches : ℕ → Bool
-  -- Whether its address lies in a symbol whose name is listed as one of loose code, or of code that switches tasks: such code is
-  -- checked as far as it can be followed, and where a rule on rsp or rbp would be broken, the stack counts as ended from there on.
+  -- Whether its address lies in a symbol whose name is listed as one of loose code: such code is checked as far as it can be
+  -- followed, and where a rule on rsp or rbp would be broken, the stack counts as ended from there on.
   pub loose : ℕ → Bool
   -- Whether its place is in no function, though a symbol of its section, other than section symbols, has a value at or below
   -- it: none of these symbols covers it. A linker that drops a weak definition leaves such code.
