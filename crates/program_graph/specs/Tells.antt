@@ -1,5 +1,5 @@
 -- When the parts of a graph tell a program.
-use Rattle.std.specs.Prelude.{◌≡◌, ℕ, ◌-◌, ◌==◌, ◌↔◌, Option, Some, None, Contains, map, length, slice_get, slice_range, if◌then◌else◌}
+use Rattle.std.specs.Prelude.{◌≡◌, ℕ, ◌-◌, ◌==◌, ◌↔◌, false, Option, Some, None, is_some, Contains, map, length, slice_get, slice_range, if◌then◌else◌}
 use Rattle.ot_base.specs.declared.place.Place.{Place}
 use Rattle.operation_defs.specs.declared.insn.Insn.{Insn}
 use Rattle.state_defs.specs.declared.state.HintState.TheVariants.{Restore}
@@ -34,12 +34,14 @@ pub record Means (p : Program) (q r : ℕ) : Type 0 where
 -- what point q has of hints in the program
 pub record TellsHinted (p : Program) (parts : GraphParts) (q : ℕ) (x : Hinted) : Type 0 where
   pub hint : p.hint q ≡ x.hint
+  pub own : p.own_hint q ≡ x.is_own
   pub save_of : p.save_of q ≡ x.save_of
   pub restores : (r : ℕ) → Contains (slice_range parts.restores.items x.restores_from x.restores_to) r ↔ Means p q r
 
 -- and where it has nothing of them
 pub record TellsUnhinted (p : Program) (q : ℕ) : Type 0 where
   pub hint : p.hint q ≡ None
+  pub own : p.own_hint q ≡ false
   pub save_of : p.save_of q ≡ None
   pub restores : (r : ℕ) → Means p q r → ⊥
 
@@ -71,6 +73,7 @@ pub record TellsTransfer (p : Program) (q : ℕ) (x : Transfer) : Type 0 where
   pub role : p.role q ≡ x.role
   pub marks : p.marks q ≡ x.marks
   pub calls_fentry : p.calls_fentry q ≡ x.calls_fentry
+  pub names : is_some (p.names q) ≡ x.names_symbol
 
 -- whose code point q is in the program
 pub record TellsOwner (p : Program) (q : ℕ) (x : Owner) : Type 0 where
@@ -78,6 +81,8 @@ pub record TellsOwner (p : Program) (q : ℕ) (x : Owner) : Type 0 where
   pub owner : p.owner q ≡ x.owner
   pub unchecked : p.unchecked q ≡ x.is_unchecked
   pub in_patches : p.in_patches q ≡ x.in_patches
+  pub loose : p.loose q ≡ x.is_loose
+  pub uncovered : p.uncovered q ≡ x.is_uncovered
 
 abbrev pub insn_of : PointKind → Insn
 insn_of k = record { len = k.len; op = k.op }
@@ -109,3 +114,4 @@ pub record Tells (p : Program) (parts : GraphParts) : Type 0 where
   pub sites : p.sites ≡ map site_of parts.sites.items
   pub texts : p.texts ≡ map text_of parts.texts.items
   pub unsized : p.unsized ≡ parts.without_size.items
+  pub linked : p.linked ≡ parts.linked

@@ -1,6 +1,6 @@
 //! A graph and its getters.
 
-ghost use Rattle.std.specs.Prelude.{◌≡◌, ◌+◌, ◌<◌, ◌≤◌, ◌↔◌, ◌∷◌, [], None, Some, false, true, ℕ, All, Contains, IfSome, IsSome, IsTrue, MatchOption, length, map, slice_get, slice_range};
+ghost use Rattle.std.specs.Prelude.{◌≡◌, ◌+◌, ◌<◌, ◌≤◌, ◌↔◌, ◌∷◌, [], None, Some, false, true, ℕ, All, Contains, IfSome, IsSome, IsTrue, MatchOption, is_some, length, map, slice_get, slice_range};
 ghost use Rattle.machine_defs.specs.Program.{Program, no_marks};
 ghost use Rattle.machine_defs.specs.Kept.{edges_of, is_at_entry};
 ghost use Rattle.program_graph.specs.Shape.{HaveShape, IsAlike, IsKindOf, listed_of, start_of};
@@ -280,6 +280,22 @@ impl Graph {
         self.owner_of(n).in_patches
     }
 
+    /// Whether a point runs in loose code.
+    pub fn loose(&self, n: u32) -> bool
+        requires { n < length self.now.parts.points.items }
+        ensures { (p : Program) → Tells p self.now.parts → result ≡ p.loose n }
+    {
+        self.owner_of(n).is_loose
+    }
+
+    /// Whether a point stands in code that no symbol covers, behind one.
+    pub fn uncovered(&self, n: u32) -> bool
+        requires { n < length self.now.parts.points.items }
+        ensures { (p : Program) → Tells p self.now.parts → result ≡ p.uncovered n }
+    {
+        self.owner_of(n).is_uncovered
+    }
+
     /// The plain point right before a plain point, in its section.
     pub fn previous(&self, n: u32) -> Option<u32>
         requires { n < length self.now.parts.points.items }
@@ -293,7 +309,7 @@ impl Graph {
         }
     }
 
-    /// The unwind hint at a point.
+    /// The unwind hint that counts for a point.
     pub fn hint(&self, n: u32) -> Option<HintState>
         requires { n < length self.now.parts.points.items }
         ensures { (p : Program) → Tells p self.now.parts → result ≡ p.hint n }
@@ -301,6 +317,17 @@ impl Graph {
         match self.hinted(n) {
             Some(hinted) => hinted.hint,
             None => None,
+        }
+    }
+
+    /// Whether an unwind hint stands at a point's own place.
+    pub fn own_hint(&self, n: u32) -> bool
+        requires { n < length self.now.parts.points.items }
+        ensures { (p : Program) → Tells p self.now.parts → result ≡ p.own_hint n }
+    {
+        match self.hinted(n) {
+            Some(hinted) => hinted.is_own,
+            None => false,
         }
     }
 
@@ -455,6 +482,14 @@ impl Graph {
         self.transfer(n).calls_fentry
     }
 
+    /// Whether a point is a call, or a jump by a 32-bit displacement, that names its target by a GLOBAL or WEAK symbol.
+    pub fn names_symbol(&self, n: u32) -> bool
+        requires { n < length self.now.parts.points.items }
+        ensures { (p : Program) → Tells p self.now.parts → result ≡ is_some (p.names n) }
+    {
+        self.transfer(n).names_symbol
+    }
+
     /// The alternatives sites.
     pub fn sites(&self) -> &[GraphSite]
         ensures { (p : Program) → Tells p self.now.parts → map site_of result.now ≡ p.sites }
@@ -474,5 +509,12 @@ impl Graph {
         ensures { (p : Program) → Tells p self.now.parts → result.now ≡ p.unsized }
     {
         self.parts.without_size.as_slice()
+    }
+
+    /// Whether the object is joined from several.
+    pub fn is_linked(&self) -> bool
+        ensures { (p : Program) → Tells p self.now.parts → result ≡ p.linked }
+    {
+        self.parts.linked
     }
 }

@@ -34,13 +34,19 @@ pub struct Owner {
     pub is_unchecked: bool,
     /// Whether they stand in a section to which control comes by patching alone.
     pub in_patches: bool,
+    /// Whether they run in loose code: where the stack would be lost there, it counts as ended.
+    pub is_loose: bool,
+    /// Whether they stand in code that no symbol covers, behind one.
+    pub is_uncovered: bool,
 }
 
 /// What a point has of unwind hints, which has one or is meant by one.
 #[derive(Clone, Copy, PartialEq, Eq)]
 pub struct Hinted {
-    /// The hint at its place.
+    /// The hint that counts for it.
     pub hint: Option<HintState>,
+    /// Whether a hint stands at its own place: else that is the hint at the start of its site.
+    pub is_own: bool,
     /// The SAVE point that a RESTORE means.
     pub save_of: Option<u32>,
     /// Where in the list of RESTOREs those begin that mean this SAVE point.
@@ -83,8 +89,8 @@ pub struct Rare {
     pub hinted: Option<u32>,
 }
 
-/// Where control may go from a point, beside its edges. Of a usual point it goes nowhere else, and nothing is wrong with
-/// where it goes.
+/// Where control may go from a point, beside its edges. Of a usual point it goes nowhere else, nothing is wrong with where it
+/// goes, and no symbol names that.
 #[derive(Clone, Copy, PartialEq, Eq)]
 pub struct Transfer {
     /// What the point is to its function.
@@ -93,6 +99,8 @@ pub struct Transfer {
     pub marks: Marks,
     /// Whether it calls `__fentry__`.
     pub calls_fentry: bool,
+    /// Whether it is a call, or a jump by a 32-bit displacement, that names its target by a GLOBAL or WEAK symbol.
+    pub names_symbol: bool,
 }
 
 /// What a point has that others have too: all but where it stands and whose it is. Points of one kind mostly name it by
@@ -137,12 +145,12 @@ const _: () = prove!(size_of::<Transfer>() == 20);
 
 const _: () = prove!(size_of::<Rare>() == 32);
 
-const _: () = prove!(size_of::<Hinted>() == 88);
+const _: () = prove!(size_of::<Hinted>() == 96);
 
 /// What a graph is made of.
 ///
 /// A point takes 16 bytes, 4 for where its edges begin, and 8 for each edge. A kind takes 32 bytes, a transfer 20, what is
-/// rare 32, and a hint 88 more.
+/// rare 32, and a hint 96 more.
 #[derive(Drop)]
 pub struct GraphParts {
     /// The points by number.
@@ -173,4 +181,6 @@ pub struct GraphParts {
     pub texts: Vec<TextSection>,
     /// The places of functions without a size.
     pub without_size: Vec<Place>,
+    /// Whether the object is joined from several.
+    pub linked: bool,
 }

@@ -24,6 +24,7 @@ const USUAL_TRANSFER: Transfer = Transfer {
         relocated: false,
     },
     calls_fentry: false,
+    names_symbol: false,
 };
 
 /// Where in a list that of a usual point stands first. Where none does, the list's length.

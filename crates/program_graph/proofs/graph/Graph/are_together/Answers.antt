@@ -6,7 +6,7 @@ use Rattle.program_graph.specs.declared.parts.Owner.{Owner}
 use Rattle.program_graph.proofs.graph.Graph.are_together.Goals as goal
 
 no_owner : Owner
-no_owner = record { function = None; owner = None; is_unchecked = false; in_patches = false }
+no_owner = record { function = None; owner = None; is_unchecked = false; in_patches = false; is_loose = false; is_uncovered = false }
 
 pub returns-clause-owner : goal.returns-clause-owner
 returns-clause-owner c same p tells =

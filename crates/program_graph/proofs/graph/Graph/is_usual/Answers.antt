@@ -1,5 +1,5 @@
 -- The usual one is what a point names that has its number.
-use Rattle.std.proofs.Common.{◌≡◌, Some, arith, IsTrue, nat_eq, refl, slice_get}
+use Rattle.std.proofs.Common.{arith, IsTrue, nat_eq, refl}
 use Rattle.program_graph.specs.declared.parts.PointKind.{PointKind}
 use Rattle.program_graph.specs.declared.usual.TheConstants.{USUAL_RARE}
 use Rattle.program_graph.proofs.Named.{stands_so}
