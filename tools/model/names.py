@@ -23,7 +23,7 @@ LOOSE = (
     b"sev_verify_cbit sme_encrypt_execute restore_registers srso_alias_safe_ret"
 ).split()
 SWITCHING = [b"__switch_to_asm"]
-# These are no list: a names file doesn't add to them.
+# A names file adds none to these.
 RETURNING = {b"srso_safe_ret", b"srso_alias_safe_ret", b"retbleed_return_thunk"}
 
 

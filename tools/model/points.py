@@ -159,15 +159,15 @@ class Points:
     def _insn_of(self, point: Point) -> Insn:
         """The instruction, as what stands around it has it be.
 
-        A call that is listed as one within its function only pushes; another one of code that returns for its caller leaves as a jump; rbp
+        A call of code that returns for its caller leaves as a jump; another one that is listed as one within its function only pushes; rbp
         becomes a base over room in a function that makes some; an iret with instructions of its own function right behind it goes on there,
         and so does another way out, where hints there tell the stack; and a load of rsp that switches tasks comes back with rsp as it was.
         """
         insn = self.sites.insn(point)
-        if insn.op == "Call" and self.own(point, self.intra_calls):
-            return insn._replace(op="Hop")
         if insn.op == "Call" and point in self.returning:
             return insn._replace(op="Jmp", wide=True)
+        if insn.op == "Call" and self.own(point, self.intra_calls):
+            return insn._replace(op="Hop")
         if insn.op == "LeaBpSp" and self.owner[point] in self.roomy:
             return insn._replace(op="LeaBpRoom")
         if insn.op == "Iret" and self._is_within(point):
