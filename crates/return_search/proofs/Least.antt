@@ -1,5 +1,5 @@
 -- The least set of points from which a return may come, and a search that is sound and closed.
-use Rattle.std.proofs.Common.{◌≡◌, ◌≢◌, ℕ, zero, suc, ◌+◌, ◌<◌, inl, inr, Bool, true, false, not, ◌&&◌, cond, List, [], ◌∷◌, Some, Contains, length, get_or, filter, refl, sym, ap, ◌∙◌, subst, arith}
+use Rattle.std.proofs.Common.{◌≡◌, ◌≢◌, ℕ, zero, suc, ◌+◌, ◌<◌, inl, inr, Bool, true, false, not, ◌&&◌, ◌||◌, cond, List, [], ◌∷◌, Some, Contains, length, get_or, filter, refl, sym, ap, ◌∙◌, subst, arith}
 use Rattle.std.specs.Prelude.{slice_get}
 use Rattle.std.specs.List.{list_any}
 use Rattle.std.proofs.lemmas.Bool.{and_from, and_parts, not-true}
@@ -12,13 +12,13 @@ use Rattle.machine_defs.specs.declared.flow.EdgeKind.TheVariants.{Next, Taken, F
 use Rattle.machine_defs.specs.declared.flow.Role.{Role}
 use Rattle.machine_defs.specs.declared.flow.Role.TheVariants.{Plain, CallIn, CallEither, CallOut, CallAny, Return, JumpOut, JumpAny, Switch}
 use Rattle.machine_defs.specs.Program.{Program, IsPoint, entry_points, is_call, edge}
-use Rattle.machine_defs.specs.MayReturn.{MayReturn, calls_outside, is_listed, may_call_out, target_may_return}
+use Rattle.machine_defs.specs.MayReturn.{MayReturn, calls_outside, is_listed, is_listed_by, may_return_outright, code_may_return, target_may_return}
 use Rattle.machine_defs.specs.IsProgram.{IsProgram}
 use Rattle.machine_defs.specs.Kept.{can_go}
 use Rattle.return_search.specs.declared.searched_flow.Exit.{Exit}
 use Rattle.return_search.specs.declared.searched_flow.Exit.TheVariants.{Leaves, Calls, CallsOut, CallsNever, Passes}
 use Rattle.return_search.specs.declared.searched_flow.Flow.{Flow}
-use Rattle.return_search.specs.Told.{TellsFlow, SharesEdges, callee_at, exit_of, exit_at, edges_from, start_of}
+use Rattle.return_search.specs.Told.{TellsFlow, SharesEdges, call_exit, callee_at, exit_by, exit_of, exit_at, edges_from, start_of}
 use Rattle.return_search.specs.Shape.{HasShape, points_of}
 use Rattle.return_search.specs.Backward.{edge_at, IsEdgeOf}
 use Rattle.return_search.specs.Search.{is_set, target_returns, is_calling, carries, AreSound, AreClosed}
@@ -28,6 +28,19 @@ use Rattle.return_search.proofs.Ranges.{in_range, from_range, ends_within}
 -- whether a return is carried back along a Next
 abbrev over_next : List Bool → Exit → Bool → Bool
 over_next known exit dead = target_returns known exit && not (is_calling exit && dead)
+
+-- a call that is neither marked nor listed
+call_exit_of : (m b : Bool) (x : Exit) → m ≡ false → b ≡ false → call_exit m b x ≡ x
+call_exit_of true b x unmarked unlisted = absurd (let z : ⊥ = cc in z)
+call_exit_of false true x unmarked unlisted = absurd (let z : ⊥ = cc in z)
+call_exit_of false false x unmarked unlisted = refl
+
+-- a call that may go outside and isn't listed may come back, marked or not
+outside_returns : (m c b : Bool) → c ≡ true → b ≡ false → m || (c && not b) ≡ true
+outside_returns true c b outside unlisted = refl
+outside_returns false true true outside unlisted = absurd (let z : ⊥ = cc in z)
+outside_returns false true false outside unlisted = refl
+outside_returns false false b outside unlisted = absurd (let z : ⊥ = cc in z)
 
 -- what stands in a list of one edge
 only : (e f : Edge) → Contains (e ∷ []) f → e ≡ f
@@ -46,7 +59,7 @@ module _ (p : Program) (flow : Flow) (tells : TellsFlow p flow) (shape : HasShap
   point_of q inside = omega (arith, inside, tells.count)
 
   -- what is carried along a Next, by the role
-  next_is : (known : List Bool) (q : ℕ) → IsPoint p q → over_next known (exit_of p (p.role q)) (p.dead_end q) ≡ carries flow known q Next
+  next_is : (known : List Bool) (q : ℕ) → IsPoint p q → over_next known (exit_of p q) (p.dead_end q) ≡ carries flow known q Next
   next_is known q point = ap (λ (x : Exit). over_next known x (p.dead_end q)) (tells.exits q point) ∙ ap (over_next known (exit_at flow q)) (tells.dead_ends q point)
 
   -- an edge by its number stands in the flow, and the other way round
@@ -71,13 +84,13 @@ module _ (p : Program) (flow : Flow) (tells : TellsFlow p flow) (shape : HasShap
       let table : e.kind ≡ Table = is_table q r e shares c in
       MayReturn.branches q e (λ next. let z : ⊥ = cc in z) (subst (λ (es : List Edge). Contains es e) (sym shares.same) c) m
 
-  not_leaving : (q r : ℕ) → SharesEdges p flow q r → exit_of p (p.role r) ≡ Leaves → ⊥
-  not_leaving q r shares leaves = let passes : exit_of p (p.role r) ≡ Passes = tells.exits r shares.point ∙ shares.passes in let z : ⊥ = cc in z
+  not_leaving : (q r : ℕ) → SharesEdges p flow q r → exit_of p r ≡ Leaves → ⊥
+  not_leaving q r shares leaves = let passes : exit_of p r ≡ Passes = tells.exits r shares.point ∙ shares.passes in let z : ⊥ = cc in z
 
   shared_sound : (q r : ℕ) → SharesEdges p flow q r → MayReturn p r → MayReturn p q
-  shared_sound q _ shares (MayReturn.returns r is) = absurd (not_leaving q r shares (ap (exit_of p) is))
-  shared_sound q _ shares (MayReturn.jumps_anywhere r is) = absurd (not_leaving q r shares (ap (exit_of p) is))
-  shared_sound q _ shares (MayReturn.jumps_out r sym is returns) = absurd (not_leaving q r shares (ap (exit_of p) is ∙ ap (λ (b : Bool). cond b Passes Leaves) returns))
+  shared_sound q _ shares (MayReturn.returns r is) = absurd (not_leaving q r shares (ap (exit_by p r) is))
+  shared_sound q _ shares (MayReturn.jumps_anywhere r is) = absurd (not_leaving q r shares (ap (exit_by p r) is))
+  shared_sound q _ shares (MayReturn.jumps_out r sym is returns) = absurd (not_leaving q r shares (ap (exit_by p r) is ∙ ap (λ (b : Bool). cond b Passes Leaves) returns))
   shared_sound q _ shares (MayReturn.goes_on r e plain c m) = shared_edge q r e shares c m
   shared_sound q _ shares (MayReturn.branches r e other c m) = shared_edge q r e shares c m
   shared_sound q _ shares (MayReturn.comes_back r to out alive c m) = shared_edge q r (edge to Next) shares c m
@@ -91,19 +104,21 @@ module _ (p : Program) (flow : Flow) (tells : TellsFlow p flow) (shape : HasShap
       by_jump sym is true e h = absurd (let z : ⊥ = cc in z)
       by_jump sym is false e h = MayReturn.jumps_out q sym is e
 
-      by_call : (b : Bool) → cond b CallsNever CallsOut ≡ Leaves → MayReturn p q
-      by_call true h = absurd (let z : ⊥ = cc in z)
-      by_call false h = absurd (let z : ⊥ = cc in z)
+      by_call : (m b : Bool) → call_exit m b CallsOut ≡ Leaves → MayReturn p q
+      by_call true b h = absurd (let z : ⊥ = cc in z)
+      by_call false true h = absurd (let z : ⊥ = cc in z)
+      by_call false false h = absurd (let z : ⊥ = cc in z)
 
-      by_entry : (entry : ℕ) (b : Bool) → cond b CallsNever (Calls entry) ≡ Leaves → MayReturn p q
-      by_entry entry true h = absurd (let z : ⊥ = cc in z)
-      by_entry entry false h = absurd (let z : ⊥ = cc in z)
+      by_entry : (entry : ℕ) (m b : Bool) → call_exit m b (Calls entry) ≡ Leaves → MayReturn p q
+      by_entry entry true b h = absurd (let z : ⊥ = cc in z)
+      by_entry entry false true h = absurd (let z : ⊥ = cc in z)
+      by_entry entry false false h = absurd (let z : ⊥ = cc in z)
 
-      by_role : (r : Role) → p.role q ≡ r → exit_of p r ≡ Leaves → MayReturn p q
+      by_role : (r : Role) → p.role q ≡ r → exit_by p q r ≡ Leaves → MayReturn p q
       by_role Plain is h = absurd (let z : ⊥ = cc in z)
-      by_role (CallIn entry) is h = by_entry entry (is_listed p (CallIn entry)) h
-      by_role (CallEither entry sym) is h = by_call (is_listed p (CallEither entry sym)) h
-      by_role (CallOut sym) is h = by_call (is_listed p (CallOut sym)) h
+      by_role (CallIn entry) is h = by_entry entry (p.marked_call q) (is_listed p q) h
+      by_role (CallEither entry sym) is h = by_call (p.marked_call q) (is_listed p q) h
+      by_role (CallOut sym) is h = by_call (p.marked_call q) (is_listed p q) h
       by_role CallAny is h = absurd (let z : ⊥ = cc in z)
       by_role Return is h = MayReturn.returns q is
       by_role (JumpOut sym) is h = by_jump sym is (p.never_returns sym) refl h
@@ -120,25 +135,42 @@ module _ (p : Program) (flow : Flow) (tells : TellsFlow p flow) (shape : HasShap
       alive : (d : Bool) → not (true && d) ≡ true → d ≡ false
       alive d h = not-true d h
 
+      -- a call that may come back, whatever the program does
+      outright : (r : Role) → p.role q ≡ r → is_call r ≡ true → p.marked_call q || (calls_outside r && not (is_listed p q)) ≡ true → may_return_outright p q ≡ true
+      outright r is call h = subst (λ (x : Role). is_call x && (p.marked_call q || (calls_outside x && not (is_listed p q))) ≡ true) (sym is) (and_from (is_call r) (p.marked_call q || (calls_outside r && not (is_listed p q))) call h)
+
       -- a call that may go outside
-      by_never : (to : ℕ) (r : Role) → p.role q ≡ r → calls_outside r ≡ true → (b : Bool) → is_listed p r ≡ b → over_next known (cond b CallsNever CallsOut) (p.dead_end q) ≡ true → Contains (p.goes q) (edge to Next) → MayReturn p to → MayReturn p q
-      by_never to r is outside true e h c m = absurd (let z : ⊥ = cc in z)
-      by_never to r is outside false e h c m = MayReturn.comes_back q to (ap (may_call_out p) is ∙ and_from (calls_outside r) (not (is_listed p r)) outside (ap not e)) (alive (p.dead_end q) h) c m
+      by_outside : (to : ℕ) (r : Role) → p.role q ≡ r → is_call r ≡ true → calls_outside r ≡ true → (m b : Bool) → p.marked_call q ≡ m → is_listed p q ≡ b → over_next known (call_exit m b CallsOut) (p.dead_end q) ≡ true → Contains (p.goes q) (edge to Next) → MayReturn p to → MayReturn p q
+      by_outside to r is call outside true b marked e h c m = MayReturn.comes_back q to (outright r is call (rw marked refl)) (alive (p.dead_end q) h) c m
+      by_outside to r is call outside false true marked e h c m = absurd (let z : ⊥ = cc in z)
+      by_outside to r is call outside false false marked e h c m = MayReturn.comes_back q to (outright r is call (outside_returns (p.marked_call q) (calls_outside r) (is_listed p q) outside e)) (alive (p.dead_end q) h) c m
 
       -- and one that doesn't
-      by_entry : (to entry : ℕ) → p.role q ≡ CallIn entry → (b : Bool) → is_listed p (CallIn entry) ≡ b → over_next known (cond b CallsNever (Calls entry)) (p.dead_end q) ≡ true → Contains (p.goes q) (edge to Next) → MayReturn p to → MayReturn p q
-      by_entry to entry is true e h c m = absurd (let z : ⊥ = cc in z)
-      by_entry to entry is false e h c m =
+      by_entry : (to entry : ℕ) → p.role q ≡ CallIn entry → (m b : Bool) → p.marked_call q ≡ m → is_listed p q ≡ b → over_next known (call_exit m b (Calls entry)) (p.dead_end q) ≡ true → Contains (p.goes q) (edge to Next) → MayReturn p to → MayReturn p q
+      by_entry to entry is true b marked e h c m = MayReturn.comes_back q to (outright (CallIn entry) is refl (rw marked refl)) (alive (p.dead_end q) h) c m
+      by_entry to entry is false true marked e h c m = absurd (let z : ⊥ = cc in z)
+      by_entry to entry is false false marked e h c m =
           let parts = and_parts (is_set known entry) (not (true && p.dead_end q)) h in
           let first = sound.entries p tells q entry point is parts.0 in
           MayReturn.comes_back_in q to entry first.0 is e (alive (p.dead_end q) parts.1) first.1 first.2 c m
 
-      by_role : (to : ℕ) (r : Role) → p.role q ≡ r → over_next known (exit_of p r) (p.dead_end q) ≡ true → Contains (p.goes q) (edge to Next) → MayReturn p to → MayReturn p q
+      any_listed : is_listed_by p (p.names q) (p.role q) ≡ false → is_listed p q ≡ false
+      any_listed e = rw e (by_marked (p.marked_call q))
+        where
+          by_marked : (b : Bool) → not b && false ≡ false
+          by_marked true = refl
+          by_marked false = refl
+
+      by_role : (to : ℕ) (r : Role) → p.role q ≡ r → over_next known (exit_by p q r) (p.dead_end q) ≡ true → Contains (p.goes q) (edge to Next) → MayReturn p to → MayReturn p q
       by_role to Plain is h c m = MayReturn.goes_on q (edge to Next) (ap is_call is) c m
-      by_role to (CallIn entry) is h c m = by_entry to entry is (is_listed p (CallIn entry)) refl h c m
-      by_role to (CallEither entry sym) is h c m = by_never to (CallEither entry sym) is refl (is_listed p (CallEither entry sym)) refl h c m
-      by_role to (CallOut sym) is h c m = by_never to (CallOut sym) is refl (is_listed p (CallOut sym)) refl h c m
-      by_role to CallAny is h c m = MayReturn.comes_back q to (ap (may_call_out p) is) (alive (p.dead_end q) h) c m
+      by_role to (CallIn entry) is h c m = by_entry to entry is (p.marked_call q) (is_listed p q) refl refl h c m
+      by_role to (CallEither entry sym) is h c m = by_outside to (CallEither entry sym) is refl refl (p.marked_call q) (is_listed p q) refl refl h c m
+      by_role to (CallOut sym) is h c m = by_outside to (CallOut sym) is refl refl (p.marked_call q) (is_listed p q) refl refl h c m
+      by_role to CallAny is h c m = by_outside to CallAny is refl refl (p.marked_call q) false refl (any_listed (ap (is_listed_by p (p.names q)) is)) (by_marked (p.marked_call q)) c m
+        where
+          by_marked : (b : Bool) → over_next known (call_exit b false CallsOut) (p.dead_end q) ≡ true
+          by_marked true = h
+          by_marked false = h
       by_role to Return is h c m = MayReturn.goes_on q (edge to Next) (ap is_call is) c m
       by_role to (JumpOut sym) is h c m = MayReturn.goes_on q (edge to Next) (ap is_call is) c m
       by_role to JumpAny is h c m = MayReturn.goes_on q (edge to Next) (ap is_call is) c m
@@ -180,23 +212,23 @@ module _ (p : Program) (flow : Flow) (tells : TellsFlow p flow) (shape : HasShap
       | inr shares ↦ along_shared q shares.0 e point shares.1 c is
     ]
 
-    leaves : (q : ℕ) (r : Role) → IsPoint p q → p.role q ≡ r → exit_of p r ≡ Leaves → is_set found q ≡ true
-    leaves q r point is e = closed.leaving q (point_in q point) (sym (tells.exits q point) ∙ (ap (exit_of p) is ∙ e))
+    leaves : (q : ℕ) (r : Role) → IsPoint p q → p.role q ≡ r → exit_by p q r ≡ Leaves → is_set found q ≡ true
+    leaves q r point is e = closed.leaving q (point_in q point) (sym (tells.exits q point) ∙ (ap (exit_by p q) is ∙ e))
 
-    over : (q to : ℕ) (r : Role) → IsPoint p q → p.role q ≡ r → over_next known (exit_of p r) (p.dead_end q) ≡ true → Contains (p.goes q) (edge to Next) → is_set found to ≡ true → is_set found q ≡ true
-    over q to r point is h c f = along q (edge to Next) point c f (sym (next_is known q point) ∙ subst (λ (x : Role). over_next known (exit_of p x) (p.dead_end q) ≡ true) (sym is) h)
+    over : (q to : ℕ) (r : Role) → IsPoint p q → p.role q ≡ r → over_next known (exit_by p q r) (p.dead_end q) ≡ true → Contains (p.goes q) (edge to Next) → is_set found to ≡ true → is_set found q ≡ true
+    over q to r point is h c f = along q (edge to Next) point c f (sym (next_is known q point) ∙ subst (λ (x : Role). over_next known (exit_by p q x) (p.dead_end q) ≡ true) (sym is) h)
 
     alive_over : (q : ℕ) → p.dead_end q ≡ false → not (true && p.dead_end q) ≡ true
     alive_over q e = ap not e
 
-    -- a call whose name isn't listed is one of its entry
-    calls_entry : (q entry : ℕ) → IsPoint p q → p.role q ≡ CallIn entry → is_listed p (CallIn entry) ≡ false → exit_at flow q ≡ Calls entry
-    calls_entry q entry point is unlisted = sym (tells.exits q point) ∙ (ap (exit_of p) is ∙ ap (λ (b : Bool). cond b CallsNever (Calls entry)) unlisted)
+    -- a call that is neither marked nor listed is one of its entry
+    calls_entry : (q entry : ℕ) → IsPoint p q → p.role q ≡ CallIn entry → p.marked_call q ≡ false → is_listed p q ≡ false → exit_at flow q ≡ Calls entry
+    calls_entry q entry point is unmarked unlisted = sym (tells.exits q point) ∙ (ap (exit_by p q) is ∙ call_exit_of (p.marked_call q) (is_listed p q) (Calls entry) unmarked unlisted)
 
-    known_entry : (q entry first : ℕ) → IsPoint p q → p.role q ≡ CallIn entry → is_listed p (CallIn entry) ≡ false → Contains (entry_points p entry) first → is_set found first ≡ true → is_set known entry ≡ true
-    known_entry q entry first point is unlisted c f =
+    known_entry : (q entry first : ℕ) → IsPoint p q → p.role q ≡ CallIn entry → p.marked_call q ≡ false → is_listed p q ≡ false → Contains (entry_points p entry) first → is_set found first ≡ true → is_set known entry ≡ true
+    known_entry q entry first point is unmarked unlisted c f =
         let named : callee_at flow first ≡ entry = (tells.callees q entry first point is (arrival p program entry first c)).0 c in
-        subst (λ (n : ℕ). is_set known n ≡ true) named ((closed.passed first f).callee q (calls_entry q entry point is unlisted ∙ ap Calls (sym named)))
+        subst (λ (n : ℕ). is_set known n ≡ true) named ((closed.passed first f).callee q (calls_entry q entry point is unmarked unlisted ∙ ap Calls (sym named)))
 
     complete : (q : ℕ) → IsPoint p q → MayReturn p q → is_set found q ≡ true
     complete _ point (MayReturn.returns q is) = leaves q Return point is refl
@@ -235,24 +267,34 @@ module _ (p : Program) (flow : Flow) (tells : TellsFlow p flow) (shape : HasShap
         by_kind to Sibling n c f = along q (edge to Sibling) point c f refl
     complete _ point (MayReturn.comes_back q r out alive c from) = by_role (p.role q) refl out (complete r (program.edges q (edge r Next) point c) from)
       where
-        by_never : (b : Bool) → not b ≡ true → over_next known (cond b CallsNever CallsOut) (p.dead_end q) ≡ true
-        by_never true h = absurd (let z : ⊥ = cc in z)
-        by_never false h = alive_over q alive
+        -- a call that is marked, or not listed
+        by_outside : (m b : Bool) → m || (true && not b) ≡ true → over_next known (call_exit m b CallsOut) (p.dead_end q) ≡ true
+        by_outside true b h = alive_over q alive
+        by_outside false true h = absurd (let z : ⊥ = cc in z)
+        by_outside false false h = alive_over q alive
 
-        by_role : (role : Role) → p.role q ≡ role → may_call_out p role ≡ true → is_set found r ≡ true → is_set found q ≡ true
+        by_marked : (entry : ℕ) (m b : Bool) → m || (false && not b) ≡ true → over_next known (call_exit m b (Calls entry)) (p.dead_end q) ≡ true
+        by_marked entry true b h = alive_over q alive
+        by_marked entry false b h = absurd (let z : ⊥ = cc in z)
+
+        by_role : (role : Role) → p.role q ≡ role → is_call role && (p.marked_call q || (calls_outside role && not (is_listed p q))) ≡ true → is_set found r ≡ true → is_set found q ≡ true
         by_role Plain is h f = absurd (let z : ⊥ = cc in z)
-        by_role (CallIn entry) is h f = absurd (let z : ⊥ = cc in z)
-        by_role (CallEither entry sym) is h f = over q r (CallEither entry sym) point is (by_never (is_listed p (CallEither entry sym)) h) c f
-        by_role (CallOut sym) is h f = over q r (CallOut sym) point is (by_never (is_listed p (CallOut sym)) h) c f
+        by_role (CallIn entry) is h f = over q r (CallIn entry) point is (by_marked entry (p.marked_call q) (is_listed p q) h) c f
+        by_role (CallEither entry sym) is h f = over q r (CallEither entry sym) point is (by_outside (p.marked_call q) (is_listed p q) h) c f
+        by_role (CallOut sym) is h f = over q r (CallOut sym) point is (by_outside (p.marked_call q) (is_listed p q) h) c f
         by_role CallAny is h f = over q r CallAny point is (alive_over q alive) c f
         by_role Return is h f = absurd (let z : ⊥ = cc in z)
         by_role (JumpOut sym) is h f = absurd (let z : ⊥ = cc in z)
         by_role JumpAny is h f = absurd (let z : ⊥ = cc in z)
         by_role Switch is h f = absurd (let z : ⊥ = cc in z)
     complete _ point (MayReturn.comes_back_in q r entry first is unlisted alive arrived inside c from) =
-        let f : is_set found r ≡ true = complete r (program.edges q (edge r Next) point c) from in
-        let known_is : is_set known entry ≡ true = known_entry q entry first point is unlisted arrived (complete first (arrival p program entry first arrived) inside) in
-        over q r (CallIn entry) point is (subst (λ (b : Bool). over_next known (cond b CallsNever (Calls entry)) (p.dead_end q) ≡ true) (sym unlisted) (rw known_is (alive_over q alive))) c f
+        by_marked (p.marked_call q) refl (complete r (program.edges q (edge r Next) point c) from) (complete first (arrival p program entry first arrived) inside)
+      where
+        by_marked : (m : Bool) → p.marked_call q ≡ m → is_set found r ≡ true → is_set found first ≡ true → is_set found q ≡ true
+        by_marked true marked f g = over q r (CallIn entry) point is (rw marked (alive_over q alive)) c f
+        by_marked false unmarked f g =
+            let known_is : is_set known entry ≡ true = known_entry q entry first point is unmarked unlisted arrived g in
+            over q r (CallIn entry) point is (subst (λ (x : Exit). over_next known x (p.dead_end q) ≡ true) (sym (call_exit_of (p.marked_call q) (is_listed p q) (Calls entry) unmarked unlisted)) (rw known_is (alive_over q alive))) c f
 
 same_tests : (a b : Bool) → (a ≡ true → b ≡ true) → (b ≡ true → a ≡ true) → a ≡ b
 same_tests true b f g = sym (f refl)
@@ -270,8 +312,8 @@ module _ (p : Program) (flow : Flow) (tells : TellsFlow p flow) (shape : HasShap
   pub may_return_is : (q : ℕ) → IsPoint p q → q < length found → slice_get found q ≡ Some (p.may_return q)
   may_return_is q point inside = slice_get-get_or found q false inside ∙ ap Some (found_is q point)
 
-  known_is : (q entry : ℕ) → IsPoint p q → p.role q ≡ CallIn entry → is_listed p (CallIn entry) ≡ false → is_set known entry ≡ list_any p.may_return (entry_points p entry)
-  known_is q entry point role unlisted = same_tests (is_set known entry) (list_any p.may_return (entry_points p entry)) there back
+  known_is : (q entry : ℕ) → IsPoint p q → p.role q ≡ CallIn entry → p.marked_call q ≡ false → is_listed p q ≡ false → is_set known entry ≡ list_any p.may_return (entry_points p entry)
+  known_is q entry point role unmarked unlisted = same_tests (is_set known entry) (list_any p.may_return (entry_points p entry)) there back
     where
       there : is_set known entry ≡ true → list_any p.may_return (entry_points p entry) ≡ true
       there h = go (sound.entries p tells q entry point role h)
@@ -285,35 +327,52 @@ module _ (p : Program) (flow : Flow) (tells : TellsFlow p flow) (shape : HasShap
           go : (k : ℕ) × (first : ℕ) × (k < length (entry_points p entry)) × (get_or (entry_points p entry) k first ≡ first) × (p.may_return first ≡ true) → is_set known entry ≡ true
           go (k, first, l, e, m) =
               let point_first : IsPoint p first = arrival p is entry first (k, l, e) in
-              known_entry p flow tells shape found known closed is q entry first point role unlisted (k, l, e) (found_complete first point_first ((is.may_return first point_first).0 m))
+              known_entry p flow tells shape found known closed is q entry first point role unmarked unlisted (k, l, e) (found_complete first point_first ((is.may_return first point_first).0 m))
 
-  target_is : (q : ℕ) → IsPoint p q → target_returns known (exit_at flow q) ≡ target_may_return p (p.role q)
-  target_is q point = ap (target_returns known) (sym (tells.exits q point)) ∙ by_role (p.role q) refl
+  target_is : (q : ℕ) → IsPoint p q → target_returns known (exit_at flow q) ≡ target_may_return p q
+  target_is q point = ap (target_returns known) (sym (tells.exits q point)) ∙ by_role (p.role q) refl (is_listed_by p (p.names q) (p.role q)) refl
     where
-      by_call : (b : Bool) → target_returns known (cond b CallsNever CallsOut) ≡ (not b && true)
-      by_call true = refl
-      by_call false = refl
+      -- by whether the call is marked, and listed by its name
+      Is : Bool → Exit → Bool → Type 0
+      Is listed exit code = target_returns known exit ≡ (not (not (p.marked_call q) && listed) && (p.marked_call q || code))
 
-      by_entry : (b may : Bool) (entry : ℕ) → (b ≡ false → is_set known entry ≡ may) → target_returns known (cond b CallsNever (Calls entry)) ≡ (not b && may)
-      by_entry true may entry is = refl
-      by_entry false may entry is = is refl
+      by_call : (m l : Bool) → target_returns known (call_exit m (not m && l) CallsOut) ≡ (not (not m && l) && (m || true))
+      by_call true l = refl
+      by_call false true = refl
+      by_call false false = refl
+
+      by_entry : (m l may : Bool) (entry : ℕ) → (m ≡ false → (not m && l) ≡ false → is_set known entry ≡ may) → target_returns known (call_exit m (not m && l) (Calls entry)) ≡ (not (not m && l) && (m || may))
+      by_entry true l may entry is = refl
+      by_entry false true may entry is = refl
+      by_entry false false may entry is = is refl refl
+
+      -- of what isn't a call, or calls anything
+      by_other : (m : Bool) (exit : Exit) → target_returns known exit ≡ true → target_returns known exit ≡ (not (not m && false) && (m || true))
+      by_other true exit h = h
+      by_other false exit h = h
 
       by_jump : (b : Bool) → target_returns known (cond b Passes Leaves) ≡ true
       by_jump true = refl
       by_jump false = refl
 
-      by_role : (r : Role) → p.role q ≡ r → target_returns known (exit_of p r) ≡ target_may_return p r
-      by_role Plain role = refl
-      by_role (CallIn entry) role = by_entry (is_listed p (CallIn entry)) (list_any p.may_return (entry_points p entry)) entry (known_is q entry point role)
-      by_role (CallEither entry sym) role = by_call (is_listed p (CallEither entry sym))
-      by_role (CallOut sym) role = by_call (is_listed p (CallOut sym))
-      by_role CallAny role = refl
-      by_role Return role = refl
-      by_role (JumpOut sym) role = by_jump (p.never_returns sym)
-      by_role JumpAny role = refl
-      by_role Switch role = refl
+      unlisted : (r : Role) → p.role q ≡ r → (l : Bool) → is_listed_by p (p.names q) (p.role q) ≡ l → is_listed_by p (p.names q) r ≡ false → l ≡ false
+      unlisted r role l e h = sym e ∙ (ap (is_listed_by p (p.names q)) role ∙ h)
 
-  pub comes_back_is : (targets : List Bool) (q : ℕ) → IsPoint p q → q < length targets → is_set targets q ≡ target_returns known (exit_at flow q) → slice_get targets q ≡ Some (target_may_return p (p.role q))
+      other : (r : Role) → p.role q ≡ r → (l : Bool) → is_listed_by p (p.names q) (p.role q) ≡ l → is_listed_by p (p.names q) r ≡ false → (exit : Exit) → target_returns known exit ≡ true → Is l exit true
+      other r role l e h exit returns = rw (unlisted r role l e h) (by_other (p.marked_call q) exit returns)
+
+      by_role : (r : Role) → p.role q ≡ r → (l : Bool) → is_listed_by p (p.names q) (p.role q) ≡ l → Is l (exit_by p q r) (code_may_return p r)
+      by_role Plain role l e = other Plain role l e refl Passes refl
+      by_role (CallIn entry) role l e = rw (← e) (by_entry (p.marked_call q) (is_listed_by p (p.names q) (p.role q)) (list_any p.may_return (entry_points p entry)) entry (known_is q entry point role))
+      by_role (CallEither entry sym) role l e = rw (← e) (by_call (p.marked_call q) (is_listed_by p (p.names q) (p.role q)))
+      by_role (CallOut sym) role l e = rw (← e) (by_call (p.marked_call q) (is_listed_by p (p.names q) (p.role q)))
+      by_role CallAny role l e = other CallAny role l e refl CallsOut refl
+      by_role Return role l e = other Return role l e refl Leaves refl
+      by_role (JumpOut sym) role l e = other (JumpOut sym) role l e refl (exit_by p q (JumpOut sym)) (by_jump (p.never_returns sym))
+      by_role JumpAny role l e = other JumpAny role l e refl Leaves refl
+      by_role Switch role l e = other Switch role l e refl Passes refl
+
+  pub comes_back_is : (targets : List Bool) (q : ℕ) → IsPoint p q → q < length targets → is_set targets q ≡ target_returns known (exit_at flow q) → slice_get targets q ≡ Some (target_may_return p q)
   comes_back_is targets q point inside e = slice_get-get_or targets q false inside ∙ ap Some (e ∙ target_is q point)
 
   pub edges_are : (q : ℕ) → IsPoint p q → filter (λ e. stays (target_returns known (exit_at flow q)) e.kind) (edges_from flow q) ≡ filter (λ e. can_go p q e.kind) (edges_from flow q)

@@ -12,17 +12,25 @@ use Rattle.return_search.specs.declared.searched_flow.Exit.TheVariants.{Leaves, 
 use Rattle.return_search.specs.declared.searched_flow.Flow.{Flow}
 use Rattle.return_search.specs.declared.found_returns.Returns.{Returns}
 
+-- what a call is to a return, by whether it is marked and listed, and what it is where it is neither
+abbrev pub call_exit : Bool → Bool → Exit → Exit
+call_exit marked listed other = if marked then CallsOut else if listed then CallsNever else other
+
 -- what a point of this role is to a return
-abbrev pub exit_of : Program → Role → Exit
-exit_of p Plain = Passes
-exit_of p (CallIn entry) = if is_listed p (CallIn entry) then CallsNever else Calls entry
-exit_of p (CallEither entry sym) = if is_listed p (CallEither entry sym) then CallsNever else CallsOut
-exit_of p (CallOut sym) = if is_listed p (CallOut sym) then CallsNever else CallsOut
-exit_of p CallAny = CallsOut
-exit_of p Return = Leaves
-exit_of p (JumpOut sym) = if p.never_returns sym then Passes else Leaves
-exit_of p JumpAny = Leaves
-exit_of p Switch = Passes
+abbrev pub exit_by : Program → ℕ → Role → Exit
+exit_by p q Plain = Passes
+exit_by p q (CallIn entry) = call_exit (p.marked_call q) (is_listed p q) (Calls entry)
+exit_by p q (CallEither entry sym) = call_exit (p.marked_call q) (is_listed p q) CallsOut
+exit_by p q (CallOut sym) = call_exit (p.marked_call q) (is_listed p q) CallsOut
+exit_by p q CallAny = CallsOut
+exit_by p q Return = Leaves
+exit_by p q (JumpOut sym) = if p.never_returns sym then Passes else Leaves
+exit_by p q JumpAny = Leaves
+exit_by p q Switch = Passes
+
+-- what a point is to a return
+abbrev pub exit_of : Program → ℕ → Exit
+exit_of p q = exit_by p q (p.role q)
 
 -- what a flow has for a point, and the place in the list of edges where its own begin
 abbrev pub exit_at : Flow → ℕ → Exit
@@ -59,7 +67,7 @@ pub record TellsFlow (p : Program) (flow : Flow) : Type 0 where
   pub count : p.count ≡ length flow.exits.items
   -- it has the edges of each point, or one edge in their place where the point shares those of another
   pub edges : (q : ℕ) → IsPoint p q → (p.goes q ≡ edges_from flow q) ⊎ ((r : ℕ) × SharesEdges p flow q r)
-  pub exits : (q : ℕ) → IsPoint p q → exit_of p (p.role q) ≡ exit_at flow q
+  pub exits : (q : ℕ) → IsPoint p q → exit_of p q ≡ exit_at flow q
   pub dead_ends : (q : ℕ) → IsPoint p q → p.dead_end q ≡ dead_end_at flow q
   -- control that comes to what is called may stand at the points that a call names by that number
   pub callees : (call entry q : ℕ) → IsPoint p call → p.role call ≡ CallIn entry → IsPoint p q → Contains (entry_points p entry) q ↔ (callee_at flow q ≡ entry)
@@ -68,5 +76,5 @@ pub record TellsFlow (p : Program) (flow : Flow) : Type 0 where
 -- return, and the edges that the flow has for it, without the Next of a call that can't come back.
 pub record TellsReturns (p : Program) (flow : Flow) (returns : Returns) : Type 0 where
   pub may_return : (q : ℕ) → IsPoint p q → slice_get returns.may_return.items q ≡ Some (p.may_return q)
-  pub comes_back : (q : ℕ) → IsPoint p q → slice_get returns.comes_back.items q ≡ Some (target_may_return p (p.role q))
+  pub comes_back : (q : ℕ) → IsPoint p q → slice_get returns.comes_back.items q ≡ Some (target_may_return p q)
   pub edges : (q : ℕ) → IsPoint p q → slice_range returns.edges.items (slice_index returns.starts.items q) (slice_index returns.starts.items (q + 1)) ≡ filter (λ e. can_go p q e.kind) (edges_from flow q)

@@ -12,7 +12,7 @@ pub enum Exit {
     Leaves,
     /// A call inside the program, by the number of the plain point at the entry, or at what else is called.
     Calls { entry: u32 },
-    /// A call whose target always may return: outside or by a weak symbol, by a name that may return, or indirect.
+    /// A call whose target always may return: outside or by a weak symbol, by a name that may return; indirect; or marked.
     CallsOut,
     /// A call whose target never returns: its name is listed.
     CallsNever,
