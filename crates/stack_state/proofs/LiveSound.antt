@@ -100,8 +100,8 @@ live_sound depth fp home before after f below t Pop scene fits effect e =
 live_sound depth fp home before after f below t PopBp scene fits effect e = pop_bp_sound depth fp home before after f below t scene effect e
 live_sound depth fp home before after f below t Popf scene fits effect e =
     raise_sound (pos 8) depth fp home before after f below t scene
-    (steady_same (Live depth fp home) before after f below scene (ap (λ (c : Core). c.shadow) effect) (ap (λ (c : Core). c.region) effect))
-    (ap (λ (c : Core). c.rsp) effect) (ap (λ (c : Core). c.rbp) effect) e
+    (steady_same (Live depth fp home) before after f below scene (ap (λ (c : Core). c.shadow) effect.1) (ap (λ (c : Core). c.region) effect.1))
+    (ap (λ (c : Core). c.rsp) effect.1) (ap (λ (c : Core). c.rbp) effect.1) e
 live_sound depth fp home before after f below t (AddSp by) scene fits effect e =
     raise_sound by depth fp home before after f below t scene
     (steady_same (Live depth fp home) before after f below scene (ap (λ (c : Core). c.shadow) effect) (ap (λ (c : Core). c.region) effect))

@@ -271,8 +271,8 @@ regs_sound full d before after f below t Pop scene effect e =
 regs_sound full d before after f below t PopBp scene effect e = pop_bp_sound full d before after f below t scene effect e
 regs_sound full d before after f below t Popf scene effect e =
     raise_sound (pos 8) full d before after f below t scene
-    (steady_same (Regs full d) before after f below scene (ap (λ (c : Core). c.shadow) effect) (ap (λ (c : Core). c.region) effect))
-    (ap (λ (c : Core). c.rsp) effect) (ap (λ (c : Core). c.rbp) effect) e
+    (steady_same (Regs full d) before after f below scene (ap (λ (c : Core). c.shadow) effect.1) (ap (λ (c : Core). c.region) effect.1))
+    (ap (λ (c : Core). c.rsp) effect.1) (ap (λ (c : Core). c.rbp) effect.1) e
 regs_sound full d before after f below t (AddSp by) scene effect e =
     raise_sound by full d before after f below t scene
     (steady_same (Regs full d) before after f below scene (ap (λ (c : Core). c.shadow) effect) (ap (λ (c : Core). c.region) effect))
