@@ -1,5 +1,5 @@
 -- What the base map spells, the whole map spells alike.
-use Rattle.std.proofs.Common.{◌≡◌, ℕ, true, false, cond, List, [], ◌∷◌, ◌++◌, refl, sym, ap, ◌∙◌}
+use Rattle.std.proofs.Common.{◌≡◌, ℕ, true, false, cond, List, [], ◌∷◌, ◌++◌, take, refl, sym, ap, ◌∙◌}
 use Rattle.std.specs.Prelude.{Option, Some, None}
 use Rattle.x86_map.specs.declared.map.Map.{Map}
 use Rattle.x86_map.specs.declared.map.Map.TheVariants.{Base, Whole}
@@ -24,7 +24,9 @@ use Rattle.x86_decode.specs.Action.{action_of}
 use Rattle.x86_decode.specs.Fields.{writes_number}
 use Rattle.x86_decode.specs.Operation.{written, push_operand, pop_operand, arithmetic, subtracted_from, subtracted_by, stored, loaded, address_loaded, jump_table, group_5, group_7, group_11, operation_by, operation}
 use Rattle.x86_decode.specs.Spelling.{map_of, byte_of, prefixes_in, fields_in}
-use Rattle.x86_decode.specs.MapLaw.{WholeExtendsBase}
+use Rattle.x86_decode.specs.Decoding.{emulated, spelled}
+use Rattle.x86_decode.specs.MapLaw.{WholeExtendsBase, WholeStandsAlike}
+use Rattle.x86_decode.proofs.Emulating.{spelled_stands}
 
 -- the prefixes, asked of the whole map
 abbrev whole : Prefixes → Prefixes
@@ -148,3 +150,8 @@ whole_extends bytes insn s = record {
   len = s.len;
   op = s.op ∙ sym (same_operation (fields_in Base s.parts s.shape));
 }
+
+-- and it stands there, but where an emulated instruction does
+pub whole_stands : WholeStandsAlike
+whole_stands bytes insn are (emulated e) = absurd (let no = e.whole in cc)
+whole_stands bytes insn are (spelled s alone) = spelled_stands Whole bytes insn are (s.0, whole_extends (take insn.len bytes) insn s.1)

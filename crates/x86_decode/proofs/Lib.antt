@@ -10,6 +10,7 @@ pub mod Complete
 pub mod Spelled
 pub mod Parsed
 pub mod Fronts
+pub mod Emulating
 pub mod Decided
 pub mod Exact
 pub mod OnlyDecoded

@@ -1,7 +1,7 @@
 -- Decoding gives no operation that only a program has: the bytes don't tell them.
-use Rattle.std.proofs.Common.{◌≡◌, ℕ, Bool, true, false, cond, List, Result, Ok, Err, refl, subst, sym}
+use Rattle.std.proofs.Common.{◌≡◌, ℕ, Bool, true, false, cond, List, Result, Ok, Err, refl, ap, subst, sym, ◌∙◌}
 use Rattle.std.specs.Prelude.{◌&&◌, ◌||◌, ◌==◌, not, IfOk, pos, neg_ℤ}
-use Rattle.x86_map.specs.Prefixes.{rex_w, rex_b}
+use Rattle.x86_map.specs.Prefixes.{rex_w, rex_b, under_F3, under_F2}
 use Rattle.operation_defs.specs.declared.op.Op.{Op}
 use Rattle.operation_defs.specs.declared.op.Op.TheVariants as ops
 use Rattle.operation_defs.specs.declared.insn.Insn.{Insn}
@@ -15,7 +15,8 @@ use Rattle.x86_decode.specs.Action.{action_of}
 use Rattle.x86_decode.specs.Fields.{modrm, is_register, digit, is_at_rsp, is_at_rbp, writes, rm_register, opcode_register, reg_register}
 use Rattle.x86_decode.specs.Operation.{written, pushed, popped, push_operand, pop_operand, arithmetic, subtracted, subtracted_from, subtracted_by, copied, stored, loaded, address_loaded, jump_table, group_5, group_7, group_11, operation_by, operation}
 use Rattle.x86_decode.specs.Spelling.{fields_in}
-use Rattle.x86_decode.specs.Decoding.{Outcome}
+use Rattle.x86_decode.specs.Emulation.{IsEmulated}
+use Rattle.x86_decode.specs.Decoding.{emulated, spelled, Outcome}
 
 -- an operation that decoding may give
 abbrev Given : Op → Type 0
@@ -81,7 +82,12 @@ given-group_5 f = given (digit f == 2) (ops.CallInd) (cond ((digit f == 3) || (d
 
 given-group_7 : (f : Fields) → Given (group_7 f)
 unfolding group_7
-given-group_7 f = given (modrm f == 0xCB) (ops.Stac) (cond (modrm f == 0xCA) (ops.Clac) (written f)) (refl) (given (modrm f == 0xCA) (ops.Clac) (written f) (refl) (given-written f))
+given-group_7 f =
+    let entered = under_F3 f.prefixes || under_F2 f.prefixes in
+    let left = (modrm f == 0xD7) || ((modrm f == 0xEC) && under_F3 f.prefixes) in
+    given (modrm f == 0xCB) ops.Stac (cond (modrm f == 0xCA) (cond entered ops.Switch ops.Clac) (cond left ops.Switch (written f))) refl
+    (given (modrm f == 0xCA) (cond entered ops.Switch ops.Clac) (cond left ops.Switch (written f))
+    (given entered ops.Switch ops.Clac refl refl) (given left ops.Switch (written f) refl (given-written f)))
 
 given-group_11 : (f : Fields) → Given (group_11 f)
 unfolding group_11
@@ -128,5 +134,6 @@ given-operation f = given-by (action_of f.number f.opcode) f
 
 -- what stands in front of bytes is such a one
 pub only_decoded : (map : Map) (bytes : List ℕ) (r : Result Insn DecodeFault) → Outcome map bytes r → IfOk r (λ insn. is_decoded insn.op ≡ true)
-only_decoded map bytes (Ok insn) s = subst Given (sym s.1.op) (given-operation (fields_in map s.1.parts s.1.shape))
+only_decoded map bytes (Ok insn) (spelled s alone) = subst Given (sym s.1.op) (given-operation (fields_in map s.1.parts s.1.shape))
+only_decoded map bytes (Ok insn) (emulated e) = subst Given (sym (ap (λ (i : Insn). i.op) e.is ∙ e.plain)) refl
 only_decoded map bytes (Err fault) s = tt

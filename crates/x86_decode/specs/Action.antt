@@ -47,7 +47,7 @@ one_byte_actions =
 abbrev pub two_byte_actions : List Row
 two_byte_actions =
     does (one_of (0x01 ∷ [])) Group7
-    ∷ does (one_of (0x05 ∷ 0x07 ∷ 0x34 ∷ 0x35 ∷ [])) Far
+    ∷ does (one_of (0x05 ∷ 0x07 ∷ 0x34 ∷ 0x35 ∷ 0xAA ∷ [])) Far
     ∷ does (one_of (0x0B ∷ 0xB9 ∷ 0xFF ∷ [])) Undefined
     ∷ does (one_of (0x1E ∷ [])) Hint
     ∷ does (one_of (0x1F ∷ [])) NoOperation

@@ -5,6 +5,7 @@ pub mod Operation
 pub mod Prefix
 pub mod Spelling
 pub mod Reading
+pub mod Emulation
 pub mod Decoding
 pub mod MapLaw
 pub mod UsualForms

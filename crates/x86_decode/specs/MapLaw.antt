@@ -1,5 +1,5 @@
 -- What the opcode map says, in terms of spellings.
-use Rattle.std.specs.Prelude.{◌≡◌, ℕ, ◌<◌, ◌↔◌, List, Option, Some, None, IfSome}
+use Rattle.std.specs.Prelude.{◌≡◌, ℕ, ◌<◌, ◌↔◌, ◌⊎◌, List, Option, Some, None, IfSome}
 use Rattle.std.specs.List.{AllByRecursion}
 use Rattle.operation_defs.specs.declared.insn.Insn.{Insn}
 use Rattle.x86_map.specs.declared.map.Map.TheVariants.{Base, Whole}
@@ -9,6 +9,8 @@ use Rattle.x86_map.specs.declared.shape.Look.TheVariants.{Refused, NeedModrm, Fi
 use Rattle.x86_map.specs.Vector.{payload}
 use Rattle.x86_map.specs.OpcodeMap.{look}
 use Rattle.x86_decode.specs.Spelling.{map_of, byte_of, prefixes_in, Spells}
+use Rattle.x86_decode.specs.Emulation.{IsEmulated}
+use Rattle.x86_decode.specs.Decoding.{StandsInFront, ud2}
 
 -- a spelling of the map that p asks has these prefixes, this opcode, and this ModRM byte or none
 pub record SpelledWith (p : Prefixes) (number opcode : ℕ) (modrm : Option ℕ) : Type 0 where
@@ -40,3 +42,9 @@ MapIsExact = (p : Prefixes) (number opcode : ℕ) → 0 < number → number < 13
 -- what the base map spells, the whole map spells alike
 abbrev pub WholeExtendsBase : Type 0
 WholeExtendsBase = (bytes : List ℕ) (insn : Insn) → Spells Base bytes insn → Spells Whole bytes insn
+
+-- what stands in front by the base map stands there by the whole map, but for a ud2 with which an emulated instruction begins
+abbrev pub WholeStandsAlike : Type 0
+WholeStandsAlike =
+    (bytes : List ℕ) (insn : Insn) → AllByRecursion (λ b. b < 256) bytes → StandsInFront Base bytes insn
+    → StandsInFront Whole bytes insn ⊎ ((insn ≡ ud2) × (other : Insn) × IsEmulated Whole bytes other)

@@ -2,7 +2,7 @@
 use Rattle.std.specs.Prelude.{ℕ, true, false, not, ◌&&◌, ◌||◌, ◌==◌, if◌then◌else◌, Option, Some, None, pos, neg_ℤ}
 use Rattle.operation_defs.specs.declared.op.Op.{Op}
 use Rattle.operation_defs.specs.declared.op.Op.TheVariants as ops
-use Rattle.x86_map.specs.Prefixes.{rex_w, rex_b}
+use Rattle.x86_map.specs.Prefixes.{rex_w, rex_b, under_F3, under_F2}
 use Rattle.x86_decode.specs.declared.fields.Fields.{Fields}
 use Rattle.x86_decode.specs.declared.action.Action.{Action}
 use Rattle.x86_decode.specs.declared.action.Action.TheVariants.{Other, Exchange, NoOperation, Hint, PushRegister, Push, PopRegister, PopOperand, Pop, PopFlags, Arithmetic, SubtractFrom, Subtract, Store, Load, LoadAddress, Enter, Leave, Call, ShortJump, Jump, ShortCondition, Condition, Return, ReturnImmediate, InterruptReturn, Far, Undefined, Breakpoint, Group5, Group7, Group11}
@@ -88,11 +88,12 @@ group_5 f =
     else (if digit f == 4 then ops.JmpInd (jump_table f)
     else (if digit f == 6 then push_operand f else written f)))
 
--- STAC and CLAC are among them
+-- among them STAC and CLAC, and ERETU, ERETS, ENCLU and UIRET, behind which code doesn't go on
 unfoldable pub group_7 : Fields → Op
 group_7 f =
     if modrm f == 0xCB then ops.Stac
-    else (if modrm f == 0xCA then ops.Clac else written f)
+    else (if modrm f == 0xCA then (if under_F3 f.prefixes || under_F2 f.prefixes then ops.Switch else ops.Clac)
+    else (if (modrm f == 0xD7) || ((modrm f == 0xEC) && under_F3 f.prefixes) then ops.Switch else written f))
 
 -- MOV of an immediate. XBEGIN goes on behind itself, or at its fallback address with rsp, rbp and memory as they are right behind itself
 unfoldable pub group_11 : Fields → Op

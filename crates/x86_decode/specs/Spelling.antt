@@ -1,5 +1,5 @@
 -- The spelling of an instruction: a whole byte string (SDM, volume 2, figure 2-1).
-use Rattle.std.specs.Prelude.{◌≡◌, ℕ, ◌+◌, ◌<◌, Bool, false, ◌&&◌, ◌||◌, ◌==◌, nat_lt, if◌then◌else◌, IsTrue, List, [], ◌∷◌, ◌++◌, length, Option, Some, None, is_some}
+use Rattle.std.specs.Prelude.{◌≡◌, ℕ, ◌+◌, ◌<◌, ◌≤◌, Bool, false, ◌&&◌, ◌||◌, ◌==◌, nat_lt, if◌then◌else◌, IsTrue, List, [], ◌∷◌, ◌++◌, length, take, Option, Some, None, is_some}
 use Rattle.std.specs.List.{AllByRecursion}
 use Rattle.operation_defs.specs.declared.insn.Insn.{Insn}
 use Rattle.x86_map.specs.declared.map.Map.{Map}
@@ -145,6 +145,10 @@ pub record Spells (map : Map) (bytes : List ℕ) (insn : Insn) : Type 0 where
   pub operands : Follow (prefixes_in map parts) (map_of parts.opcode) (byte_of parts.opcode) parts.operands shape
   pub len : insn.len ≡ length bytes
   pub op : insn.op ≡ operation (fields_in map parts shape)
+
+-- at most 15 of the bytes, from the first on, spell the instruction
+abbrev pub SpelledInFront : Map → List ℕ → Insn → Type 0
+SpelledInFront map bytes insn = (insn.len ≤ 15) × Spells map (take insn.len bytes) insn
 
 -- ---- the fronts of spellings
 

@@ -56,7 +56,7 @@ pub enum Action {
     ReturnImmediate,
     /// IRET.
     InterruptReturn,
-    /// Far RET, SYSCALL, SYSRET, SYSENTER, SYSEXIT.
+    /// Far RET, SYSCALL, SYSRET, SYSENTER, SYSEXIT, RSM.
     Far,
     /// UD0, UD1, UD2.
     Undefined,
@@ -64,7 +64,7 @@ pub enum Action {
     Breakpoint,
     /// INC, DEC, CALL, JMP, PUSH.
     Group5,
-    /// CLAC, STAC and others.
+    /// CLAC, STAC, ENCLU, ERETU, ERETS, UIRET and others.
     Group7,
     /// MOV of an immediate, XBEGIN.
     Group11,
@@ -124,7 +124,7 @@ fn two_byte_action(opcode: u8) -> Action
 {
     match opcode {
         0x01 => Action::Group7,
-        0x05 | 0x07 | 0x34 | 0x35 => Action::Far,
+        0x05 | 0x07 | 0x34 | 0x35 | 0xAA => Action::Far,
         0x0B | 0xB9 | 0xFF => Action::Undefined,
         0x1E => Action::Hint,
         0x1F => Action::NoOperation,

@@ -2,12 +2,13 @@
 //! (Intel SDM, volume 2, cut to the opcode map of `x86_map`).
 #![tactic(auto)]
 
-ghost use Rattle.std.specs.Prelude.{◌≡◌, true, ◌<◌, ◌≤◌, ◌↔◌, ℕ, length, IfOk, IfSome, Ok};
+ghost use Rattle.std.specs.Prelude.{◌≡◌, true, ◌<◌, ◌≤◌, ◌↔◌, ℕ, length, take, IfOk, IfSome, Ok};
 ghost use Rattle.operation_defs.specs.Made.{is_decoded};
-ghost use Rattle.x86_decode.specs.MapLaw.{MapIsExact, WholeExtendsBase};
-ghost use Rattle.x86_decode.specs.Decoding.{StandsInFront, EndsOutside, IsCut, IsTooLong, OneOutcome, OneSpelling, decoded};
+ghost use Rattle.x86_decode.specs.MapLaw.{MapIsExact, WholeExtendsBase, WholeStandsAlike};
+ghost use Rattle.x86_decode.specs.Decoding.{StandsInFront, EndsOutside, IsCut, IsTooLong, OneInFront, OneOutcome, OneSpelling, decoded, read_in_front};
 
 mod action;
+mod emulated;
 mod fault_text;
 mod fields;
 mod operation;
@@ -15,6 +16,7 @@ mod prefix;
 mod reading;
 mod usual;
 
+use crate::emulated::emulated;
 use crate::reading::{ReadStop, read};
 use crate::usual::read_usual;
 pub use fault_text::DecodeFaultText;
@@ -49,9 +51,24 @@ pub fn decode(map: Map, bytes: &[u8]) -> Result<Insn, DecodeFault>
     decode_front(map, bytes)
 }
 
+#[tactic(auto, unfolding(crate::specs::Decoding::decoded))]
 #[inline(always)]
 fn decode_front(map: Map, bytes: &[u8]) -> Result<Insn, DecodeFault>
     ensures { result ≡ decoded map bytes.now }
+{
+    match emulated(map, bytes) {
+        Some(insn) => Ok(insn),
+        None => match decode_spelled(map, bytes) {
+            Ok(insn) => Ok(insn),
+            Err(fault) => Err(fault),
+        },
+    }
+}
+
+/// The instruction that is spelled at the front of the bytes.
+#[inline(always)]
+fn decode_spelled(map: Map, bytes: &[u8]) -> Result<Insn, DecodeFault>
+    ensures { result ≡ read_in_front map bytes.now }
 {
     match decode_usual(map, bytes) {
         Some(insn) => Ok(insn),
@@ -63,10 +80,9 @@ fn decode_front(map: Map, bytes: &[u8]) -> Result<Insn, DecodeFault>
 }
 
 /// The instruction at the front of the bytes, if it is a usual one and as many bytes are there as one has at most.
-#[tactic(auto, unfolding(crate::specs::Decoding::decoded))]
 #[inline(always)]
 fn decode_usual(map: Map, bytes: &[u8]) -> Option<Insn>
-    ensures { IfSome result (λ insn. decoded map bytes.now ≡ Ok insn) }
+    ensures { IfSome result (λ insn. read_in_front map bytes.now ≡ Ok insn) }
 {
     if bytes.len() < MAX_LEN {
         return None;
@@ -74,17 +90,11 @@ fn decode_usual(map: Map, bytes: &[u8]) -> Option<Insn>
     read_usual(map, &bytes[..MAX_LEN])
 }
 
-#[tactic(auto, unfolding(crate::specs::Decoding::decoded))]
 #[inline(never)]
 fn decode_any(map: Map, bytes: &[u8]) -> Result<Insn, DecodeFault>
-    ensures { result ≡ decoded map bytes.now }
+    ensures { result ≡ read_in_front map bytes.now }
 {
-    let front = if bytes.len() < MAX_LEN {
-        bytes
-    } else {
-        &bytes[..MAX_LEN]
-    };
-    match read(map, front) {
+    match read(map, front_of(bytes, MAX_LEN)) {
         Ok(insn) => Ok(insn),
         Err(ReadStop::Dead { seen }) => Err(DecodeFault::Outside { seen }),
         Err(ReadStop::More) if bytes.len() < MAX_LEN => Err(DecodeFault::Cut {
@@ -94,8 +104,21 @@ fn decode_any(map: Map, bytes: &[u8]) -> Result<Insn, DecodeFault>
     }
 }
 
+/// The first bytes, so many at most.
+#[inline(always)]
+fn front_of(bytes: &[u8], count: usize) -> &[u8]
+    ensures front { result.now ≡ take count bytes.now }
+    ensures few { length result.now ≤ count }
+{
+    if bytes.len() < count {
+        bytes
+    } else {
+        &bytes[..count]
+    }
+}
+
 /// How many bytes an instruction has at most.
-const MAX_LEN: usize = 15;
+pub(crate) const MAX_LEN: usize = 15;
 
 /// No spelling is the front of another, and none spells two instructions: bytes that begin with a spelling begin with no
 /// other.
@@ -103,14 +126,22 @@ pub fn one_spelling()
     ensures { OneSpelling }
 {}
 
+/// What stands in front of bytes is told by its own bytes, whatever stands behind them. Only a ud2 is told by those too: with
+/// them it may begin an emulated instruction.
+pub fn one_in_front()
+    ensures { OneInFront }
+{}
+
 /// What decoding may answer excludes each other: bytes have at most one answer.
 pub fn one_outcome()
     ensures { OneOutcome }
 {}
 
-/// What the base map spells, the whole map spells alike: the same bytes, and the same instruction.
+/// What the base map spells, the whole map spells alike: the same bytes, and the same instruction. What stands in front by the
+/// base map stands there by the whole map too, but for a ud2 with which an emulated instruction begins.
 pub fn whole_extends_base()
-    ensures { WholeExtendsBase }
+    ensures spelled { WholeExtendsBase }
+    ensures stands { WholeStandsAlike }
 {}
 
 /// What the opcode map answers, in terms of spellings: it fits exactly what is spelled, asks for a ModRM byte exactly

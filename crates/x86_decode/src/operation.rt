@@ -347,6 +347,7 @@ fn group_5(f: &Fields) -> Option<Op>
     }
 }
 
+/// ERETU, ERETS, ENCLU and UIRET don't go on behind themselves.
 #[tactic(auto, unfolding(crate::specs::Operation::group_7))]
 #[inline(always)]
 fn group_7(f: &Fields) -> Option<Op>
@@ -354,7 +355,10 @@ fn group_7(f: &Fields) -> Option<Op>
 {
     match f.modrm() {
         0xCB => Some(Op::Stac),
+        0xCA if f.prefixes.under_f3() || f.prefixes.under_f2() => Some(Op::Switch),
         0xCA => Some(Op::Clac),
+        0xD7 => Some(Op::Switch),
+        0xEC => f.prefixes.under_f3().then_some(Op::Switch),
         _ => None,
     }
 }

@@ -2,7 +2,7 @@
 -- Each row: opcodes, operand, immediate, which of the named registers it writes, prefixes.
 use Rattle.std.specs.Prelude.{List, [], ◌∷◌}
 use Rattle.x86_map.specs.declared.form.Immediate.TheVariants.{Ib}
-use Rattle.x86_map.specs.Row.{Row, row, ◌to◌, E, no_imm, nothing, no_F2_F3, only, with_66, M, no_66_F2_F3, with_F3_no_66, with_F2_no_66, Ev, R}
+use Rattle.x86_map.specs.Row.{Row, row, ◌to◌, E, no_imm, nothing, no_F2_F3, only, with_66, M, no_66_F2_F3, with_F3_no_66, with_F2_no_66, Ev, Gv, R}
 
 -- behind 0F 38
 abbrev pub extension_0F_38 : List Row
@@ -38,6 +38,8 @@ extension_0F_38 =
     -- URDMSR, UWRMSR
     ∷ row (only 0xF8) R no_imm Ev with_F2_no_66
     ∷ row (only 0xF8) R no_imm nothing with_F3_no_66
+    -- ENCODEKEY128, ENCODEKEY256
+    ∷ row (0xFA to 0xFB) R no_imm Gv with_F3_no_66
     ∷ []
 
 -- behind 0F 3A

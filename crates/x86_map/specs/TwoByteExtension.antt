@@ -27,8 +27,10 @@ extension_0F =
     ∷ row (only 0x01) (M-of 5 5) no_imm nothing with_F3_no_66
     ∷ row (only 0x01) (bytes 0xE8 0xE8) no_imm nothing with_F3_no_66
     ∷ row (only 0x01) (bytes 0xEA 0xEA) no_imm nothing with_F3_no_66
-    -- group 7: TESTUI, CLUI, STUI; MCOMMIT; RMPQUERY, RMPADJUST, PSMASH; RMPUPDATE, PVALIDATE
-    ∷ row (only 0x01) (bytes 0xED 0xEF) no_imm nothing with_F3_no_66
+    -- group 7: ERETU; ERETS; UIRET, TESTUI, CLUI, STUI; MCOMMIT; RMPQUERY, RMPADJUST, PSMASH; RMPUPDATE, PVALIDATE
+    ∷ row (only 0x01) (bytes 0xCA 0xCA) no_imm nothing with_F3_no_66
+    ∷ row (only 0x01) (bytes 0xCA 0xCA) no_imm nothing with_F2_no_66
+    ∷ row (only 0x01) (bytes 0xEC 0xEF) no_imm nothing with_F3_no_66
     ∷ row (only 0x01) (bytes 0xFA 0xFA) no_imm nothing with_F3_no_66
     ∷ row (only 0x01) (bytes 0xFD 0xFF) no_imm nothing with_F3_no_66
     ∷ row (only 0x01) (bytes 0xFE 0xFF) no_imm nothing with_F2_no_66
@@ -49,6 +51,8 @@ extension_0F =
     ∷ row (only 0x16) M no_imm nothing with_66
     ∷ row (only 0x16) E no_imm nothing with_F3_no_66
     ∷ row (only 0x17) M no_imm nothing no_F2_F3
+    -- group 16: PREFETCHIT1, PREFETCHIT0 and hints
+    ∷ row (only 0x18) (M-of 4 7) no_imm nothing no_F2_F3
     -- hint NOPs, among them the MPX instructions and CLDEMOTE
     ∷ row (0x19 to 0x1D) E no_imm nothing no_F2_F3
     -- MOVAPS; CVTPI2PS, CVTSI2SS, CVTSI2SD; MOVNTPS; CVT and CVTT to MMX, and to a register; UCOMIS, COMIS
@@ -111,6 +115,8 @@ extension_0F =
     ∷ row (only 0x7E) E no_imm nothing with_F3_no_66
     ∷ row (only 0x7F) E no_imm nothing no_F2_F3
     ∷ row (only 0x7F) E no_imm nothing with_F3_no_66
+    -- RSM
+    ∷ row (only 0xAA) none no_imm nothing no_66_F2_F3
     -- group 15: PTWRITE; INCSSP; CLRSSBSY; UMONITOR, UMWAIT, TPAUSE
     ∷ row (only 0xAE) (E-of 4 4) no_imm nothing with_F3_no_66
     ∷ row (only 0xAE) (R-of 5 5) no_imm nothing with_F3_no_66

@@ -94,7 +94,7 @@ impl Prefixes {
     }
 
     /// F3, or the pp of VEX or EVEX in its place.
-    pub(crate) fn under_f3(&self) -> bool
+    pub fn under_f3(&self) -> bool
         ensures { result ≡ under_F3 self.now }
     {
         match self.vector {
@@ -104,7 +104,7 @@ impl Prefixes {
     }
 
     /// F2, or the pp of VEX or EVEX in its place.
-    pub(crate) fn under_f2(&self) -> bool
+    pub fn under_f2(&self) -> bool
         ensures { result ≡ under_F2 self.now }
     {
         match self.vector {

@@ -8,7 +8,7 @@ use crate::extension::OpcodeRange;
 use crate::words::{form, immediate, operand, prefixes, row, written};
 
 /// Behind 0F 38 (table A-4).
-static EXTENSION_0F_38_ROWS: [OpcodeRange; 23] = [
+static EXTENSION_0F_38_ROWS: [OpcodeRange; 24] = [
     // SSSE3: PSHUFB to PMULHRSW, PABS
     row!(0x00..=0x0B, E, no_imm, nothing, no_F2_F3),
     row!(0x1C..=0x1E, E, no_imm, nothing, no_F2_F3),
@@ -40,6 +40,8 @@ static EXTENSION_0F_38_ROWS: [OpcodeRange; 23] = [
     // URDMSR, UWRMSR
     row!(0xF8, R, no_imm, Ev, with_F2_no_66),
     row!(0xF8, R, no_imm, nothing, with_F3_no_66),
+    // ENCODEKEY128, ENCODEKEY256
+    row!(0xFA..=0xFB, R, no_imm, Gv, with_F3_no_66),
 ];
 
 /// Behind 0F 3A (table A-5).

@@ -8,7 +8,7 @@ use crate::extension::OpcodeRange;
 use crate::words::{form, immediate, operand, prefixes, row, written};
 
 /// The opcodes behind 0F that the extension has (SDM, volume 2, table A-3).
-static EXTENSION_0F_ROWS: [OpcodeRange; 120] = [
+static EXTENSION_0F_ROWS: [OpcodeRange; 124] = [
     // group 6: LKGS
     row!(0x00, E[6..=6], no_imm, nothing, with_F2_no_66),
     // group 7: ENCLV; VMLAUNCH, VMRESUME, VMXOFF, PCONFIG, WRMSRNS; ENCLS; VMFUNC, XEND, XTEST, ENCLU, VMRUN
@@ -30,8 +30,10 @@ static EXTENSION_0F_ROWS: [OpcodeRange; 120] = [
     row!(0x01, M[5..=5], no_imm, nothing, with_F3_no_66),
     row!(0x01, bytes[0xE8..=0xE8], no_imm, nothing, with_F3_no_66),
     row!(0x01, bytes[0xEA..=0xEA], no_imm, nothing, with_F3_no_66),
-    // group 7: TESTUI, CLUI, STUI; MCOMMIT; RMPQUERY, RMPADJUST, PSMASH; RMPUPDATE, PVALIDATE
-    row!(0x01, bytes[0xED..=0xEF], no_imm, nothing, with_F3_no_66),
+    // group 7: ERETU; ERETS; UIRET, TESTUI, CLUI, STUI; MCOMMIT; RMPQUERY, RMPADJUST, PSMASH; RMPUPDATE, PVALIDATE
+    row!(0x01, bytes[0xCA..=0xCA], no_imm, nothing, with_F3_no_66),
+    row!(0x01, bytes[0xCA..=0xCA], no_imm, nothing, with_F2_no_66),
+    row!(0x01, bytes[0xEC..=0xEF], no_imm, nothing, with_F3_no_66),
     row!(0x01, bytes[0xFA..=0xFA], no_imm, nothing, with_F3_no_66),
     row!(0x01, bytes[0xFD..=0xFF], no_imm, nothing, with_F3_no_66),
     row!(0x01, bytes[0xFE..=0xFF], no_imm, nothing, with_F2_no_66),
@@ -52,6 +54,8 @@ static EXTENSION_0F_ROWS: [OpcodeRange; 120] = [
     row!(0x16, M, no_imm, nothing, with_66),
     row!(0x16, E, no_imm, nothing, with_F3_no_66),
     row!(0x17, M, no_imm, nothing, no_F2_F3),
+    // group 16: PREFETCHIT1, PREFETCHIT0 and hints
+    row!(0x18, M[4..=7], no_imm, nothing, no_F2_F3),
     // hint NOPs, among them the MPX instructions and CLDEMOTE
     row!(0x19..=0x1D, E, no_imm, nothing, no_F2_F3),
     // MOVAPS; CVTPI2PS, CVTSI2SS, CVTSI2SD; MOVNTPS; CVT and CVTT to MMX, and to a register; UCOMIS, COMIS
@@ -114,6 +118,8 @@ static EXTENSION_0F_ROWS: [OpcodeRange; 120] = [
     row!(0x7E, E, no_imm, nothing, with_F3_no_66),
     row!(0x7F, E, no_imm, nothing, no_F2_F3),
     row!(0x7F, E, no_imm, nothing, with_F3_no_66),
+    // RSM
+    row!(0xAA, none, no_imm, nothing, no_66_F2_F3),
     // group 15: PTWRITE; INCSSP; CLRSSBSY; UMONITOR, UMWAIT, TPAUSE
     row!(0xAE, E[4..=4], no_imm, nothing, with_F3_no_66),
     row!(0xAE, R[5..=5], no_imm, nothing, with_F3_no_66),
