@@ -1,20 +1,18 @@
 -- Emulated instructions: where one stands, a ud2 is spelled, and what decoding reads is so.
-use Rattle.std.proofs.Common.{◌≡◌, ◌≢◌, ℕ, ◌+◌, ◌-◌, ◌<◌, ◌≤◌, Bool, true, false, cond, List, [], ◌∷◌, ◌++◌, length, take, drop, Ok, Err, refl, sym, ap, subst, ◌∙◌, inl, inr, arith, append_assoc}
-use Rattle.std.specs.Prelude.{◌||◌, ◌⊎◌, nat_eq, Option, Some, None}
-use Rattle.std.specs.List.{starts_with}
+use Rattle.std.proofs.Common.{◌≡◌, ℕ, ◌+◌, ◌-◌, ◌≤◌, Bool, true, false, cond, List, [], ◌∷◌, ◌++◌, length, take, drop, Ok, Err, refl, sym, ap, subst, ◌∙◌, inl, inr, arith, append_assoc}
+use Rattle.std.specs.Prelude.{◌||◌, ◌⊎◌, Option, Some, None}
 use Rattle.std.specs.Str.{bytes_eq}
 use Rattle.std.proofs.lemmas.Slice.Eq.{bytes_eq-Decides}
 use Rattle.std.proofs.lemmas.List.{drop-take, length-append, length-take, take_at, take-take, take-append-drop}
 use Rattle.operation_defs.specs.declared.insn.Insn.{Insn}
 use Rattle.operation_defs.specs.declared.op.Op.{Op}
-use Rattle.operation_defs.specs.declared.op.Op.TheVariants.{Plain, Ud2}
+use Rattle.operation_defs.specs.declared.op.Op.TheVariants.{Plain}
 use Rattle.x86_map.specs.declared.map.Map.{Map}
 use Rattle.x86_map.specs.declared.map.Map.TheVariants.{Base, Whole}
 use Rattle.x86_map.specs.declared.shape.Shape.{Shape}
 use Rattle.x86_map.specs.declared.shape.Write.TheVariants.{Nothing}
 use Rattle.x86_map.specs.Form.{look_form}
 use Rattle.x86_map.specs.OpcodeMap.{base_forms, added_forms, look}
-use Rattle.x86_decode.specs.declared.reading.ReadStop.TheVariants.{Dead, More}
 use Rattle.x86_decode.specs.Action.{action_of}
 use Rattle.x86_decode.specs.Operation.{operation, operation_by}
 use Rattle.x86_decode.specs.Spelling.{two_byte, Spells, SpelledInFront}

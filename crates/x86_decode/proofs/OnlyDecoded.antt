@@ -15,7 +15,6 @@ use Rattle.x86_decode.specs.Action.{action_of}
 use Rattle.x86_decode.specs.Fields.{modrm, is_register, digit, is_at_rsp, is_at_rbp, writes, rm_register, opcode_register, reg_register}
 use Rattle.x86_decode.specs.Operation.{written, pushed, popped, push_operand, pop_operand, arithmetic, subtracted, subtracted_from, subtracted_by, copied, stored, loaded, address_loaded, jump_table, group_5, group_7, group_11, operation_by, operation}
 use Rattle.x86_decode.specs.Spelling.{fields_in}
-use Rattle.x86_decode.specs.Emulation.{IsEmulated}
 use Rattle.x86_decode.specs.Decoding.{emulated, spelled, Outcome}
 
 -- an operation that decoding may give

@@ -1,24 +1,26 @@
 -- What is known of the bytes that were read before, and of those that are decoded.
 use Rattle.std.specs.Prelude.{◌↔◌, slice_get}
-use Rattle.std.proofs.Common.{◌≡◌, ℕ, zero, suc, ◌+◌, ◌*◌, ◌-◌, ◌/◌, ◌%◌, ◌^◌, ◌<◌, ◌≤◌, List, [], ◌∷◌, ◌++◌, take, drop, length, get_or, Result, Ok, Err, Some, All, refl, sym, ap, ◌∙◌, subst, arith}
+use Rattle.std.proofs.Common.{◌≡◌, ℕ, true, zero, suc, ◌+◌, ◌*◌, ◌-◌, ◌/◌, ◌%◌, ◌^◌, ◌<◌, ◌≤◌, List, [], ◌∷◌, ◌++◌, take, drop, length, get_or, Result, Ok, Err, Some, All, refl, sym, ap, ◌∙◌, subst, arith}
 use Rattle.std.specs.Int.{w64, to_le_bytes}
 use Rattle.std.proofs.Math.Pow.{mod-mod-pow}
 use Rattle.std.proofs.Math.Seq.{take-add}
 use Rattle.std.proofs.lemmas.Nat.{field_of, shl-shr, shr-shr}
-use Rattle.std.proofs.lemmas.List.{get_or-drop, take-take}
+use Rattle.std.proofs.lemmas.List.{get_or-drop, length-take, take-append-drop, take-take, take_at}
 use Rattle.operation_defs.specs.declared.insn.Insn.{Insn}
 use Rattle.x86_map.specs.declared.map.Map.{Map}
+use Rattle.x86_map.specs.declared.map.Map.TheVariants.{Base, Whole}
 use Rattle.x86_decode.specs.declared.DecodeFault.{DecodeFault}
 use Rattle.x86_decode.specs.declared.DecodeFault.TheVariants.{Cut, Outside, Long}
-use Rattle.x86_decode.specs.Decoding.{Outcome, StandsInFront, EndsOutside, IsCut, IsTooLong, decoded}
-use Rattle.x86_decode.specs.Spelling.{Spells}
+use Rattle.x86_decode.specs.Emulation.{IsEmulated}
+use Rattle.x86_decode.specs.Decoding.{Outcome, StandsInFront, EndsOutside, IsCut, IsTooLong, decoded, ud2}
 use Rattle.x86_decode.proofs.Decided.{bytes_from_each, decides, lengths, outcome}
+use Rattle.x86_decode.proofs.Emulating.{stands_there}
 use Rattle.x86_decode.proofs.Languages.{IsBytes}
 use Rattle.x86_text.specs.declared.known.Known.{Known}
 use Rattle.x86_text.specs.declared.known.LongSpelling.{LongSpelling}
 use Rattle.x86_text.specs.declared.known.Spelling.{Spelling}
 use Rattle.x86_text.specs.Code.{may_use_table}
-use Rattle.x86_text.specs.Known.{long_bytes, upper_bytes, AreSpellings, IsFoundInFront, IsKindInFront, IsLongSpelling, IsSpelling, SpellsKind, SpellsShort}
+use Rattle.x86_text.specs.Known.{is_told_alone, long_bytes, upper_bytes, AreSpellings, IsFoundInFront, IsKindInFront, IsLongSpelling, IsSpelling, SpellsKind, SpellsShort}
 
 module _ (bytes : List ℕ) (off : ℕ) (each : (k : ℕ) → get_or bytes k 0 < 256) where
   still_bytes : IsBytes (drop off bytes)
@@ -92,21 +94,30 @@ moved_up x (suc (suc (suc (suc (suc (suc (suc (suc (suc len))))))))) some few = 
 -- ---- spellings
 
 -- those whose bytes are in front spell what stands there
-in_front : (map : Map) (kinds : List Insn) (bytes spelled : List ℕ) (len number : ℕ) → 0 < len → len ≤ 15 → spelled ≡ take len bytes → SpellsKind map kinds spelled len number → IsKindInFront map kinds bytes number
-in_front map kinds bytes spelled len number some few same is = record {
+in_front : (map : Map) (kinds : List Insn) (bytes spelled : List ℕ) (len number : ℕ) → spelled ≡ take len bytes → SpellsKind map kinds spelled len number → IsKindInFront map kinds bytes number
+in_front map kinds bytes spelled len number same is = record {
   insn = is.insn;
   at = is.at;
-  stands = (omega (arith, is.long), subst (λ front. Spells map front is.insn) (same ∙ ap (λ n. take n bytes) (sym is.long)) is.spells);
+  stands = subst (λ whole. StandsInFront map whole is.insn) (ap (λ front. front ++ drop len bytes) same ∙ take-append-drop len bytes) (is.stands (drop len bytes));
 }
 
--- what stands in front is spelled by its bytes
-spelled_now : (map : Map) (kinds : List Insn) (bytes spelled : List ℕ) (len number : ℕ) (insn : Insn) → spelled ≡ take len bytes → slice_get kinds number ≡ Some insn → insn.len ≡ len → StandsInFront map bytes insn → SpellsKind map kinds spelled len number
-spelled_now map kinds bytes spelled len number insn same at long stands = record {
-  insn = insn;
-  at = at;
-  long = long;
-  spells = subst (λ front. Spells map front insn) (ap (λ n. take n bytes) long ∙ sym same) stands.1;
-}
+-- one that is told by its bytes is no ud2 that begins an emulated instruction
+told_alone : (map : Map) (bytes : List ℕ) (insn : Insn) → is_told_alone map insn.op ≡ true → (other : Insn) → insn ≡ ud2 → IsEmulated map bytes other → ⊥
+told_alone Base bytes insn alone other is e = let no = e.whole in cc
+told_alone Whole bytes insn alone other is e = let no : is_told_alone Whole ud2.op ≡ true = subst (λ (i : Insn). is_told_alone Whole i.op ≡ true) is alone in cc
+
+-- what stands in front stands wherever its bytes do
+spelled_now : (map : Map) (kinds : List Insn) (bytes spelled : List ℕ) (len number : ℕ) (insn : Insn) → is_told_alone map insn.op ≡ true → spelled ≡ take len bytes → slice_get kinds number ≡ Some insn → insn.len ≡ len → StandsInFront map bytes insn → SpellsKind map kinds spelled len number
+spelled_now map kinds bytes spelled len number insn alone same at long stands =
+    let fits = lengths map bytes (Ok insn) stands in
+    let as_long : length spelled ≡ insn.len = ap (length {A = ℕ}) same ∙ omega (arith, length-take len bytes, long, fits.2) in
+    record {
+      insn = insn;
+      at = at;
+      long = long;
+      stands = λ behind. stands_there map bytes (spelled ++ behind) insn (told_alone map (spelled ++ behind) insn alone) stands
+          (take_at spelled behind insn.len as_long ∙ same ∙ ap (λ n. take n bytes) (sym long));
+    }
 
 module _ (map : Map) (kinds : List Insn) (bytes : List ℕ) (first front len : ℕ) (is : to_le_bytes w64 first ≡ take 8 bytes) (few : len ≤ 8) (above : upper_bytes front len ≡ take len (to_le_bytes w64 first)) where
   same_bytes : upper_bytes front len ≡ take len bytes
@@ -119,15 +130,15 @@ module _ (map : Map) (kinds : List Insn) (bytes : List ℕ) (first front len : �
       let same : upper_bytes s.front s.len ≡ take s.len bytes = ap (λ f. upper_bytes f s.len) same_front ∙ ap (upper_bytes front) same_len ∙ same_bytes ∙ ap (λ n. take n bytes) (sym same_len) in
       let short : SpellsShort map kinds (upper_bytes s.front s.len) s.len s.number s.may_jump = known (omega arith) in
       record {
-        kind = in_front map kinds bytes (upper_bytes s.front s.len) s.len s.number (omega arith) (omega arith) same short.spelled;
+        kind = in_front map kinds bytes (upper_bytes s.front s.len) s.len s.number same short.spelled;
         long = short.spelled.long ∙ same_len;
         jumps = short.jumps;
       }
 
   -- what stands in front is known from now on
-  pub known_now : (insn : Insn) (number : ℕ) → slice_get kinds number ≡ Some insn → insn.len ≡ len → StandsInFront map bytes insn → IsSpelling map kinds (record { front = front; number = number; len = len; may_jump = may_use_table insn.op })
+  pub known_now : (insn : Insn) (number : ℕ) → is_told_alone map insn.op ≡ true → slice_get kinds number ≡ Some insn → insn.len ≡ len → StandsInFront map bytes insn → IsSpelling map kinds (record { front = front; number = number; len = len; may_jump = may_use_table insn.op })
   unfolding spelled_now
-  known_now insn number at same_len stands some = record { spelled = spelled_now map kinds bytes (upper_bytes front len) len number insn same_bytes at same_len stands; jumps = refl }
+  known_now insn number alone at same_len stands some = record { spelled = spelled_now map kinds bytes (upper_bytes front len) len number insn alone same_bytes at same_len stands; jumps = refl }
 
 -- one that is looked up is among those that are known
 pub looked_up : (map : Map) (kinds : List Insn) (spellings now : List Spelling) (place : ℕ) (s : Spelling) → now ≡ spellings → All (IsSpelling map kinds) spellings → place < length now → s ≡ get_or now place s → IsSpelling map kinds s
@@ -149,11 +160,11 @@ module _ (map : Map) (kinds : List Insn) (bytes : List ℕ) (front back len : �
   pub stands_long : (s : LongSpelling) → s.front ≡ front → s.back ≡ back → s.len ≡ len → IsLongSpelling map kinds s → IsKindInFront map kinds bytes s.number
   stands_long s same_front same_back same_len known =
       let same : long_bytes s.front s.back s.len ≡ take s.len bytes = ap (λ f. long_bytes f s.back s.len) same_front ∙ ap (λ b. long_bytes front b s.len) same_back ∙ ap (long_bytes front back) same_len ∙ same_long ∙ ap (λ n. take n bytes) (sym same_len) in
-      in_front map kinds bytes (long_bytes s.front s.back s.len) s.len s.number (omega arith) (omega arith) same (known (omega arith))
+      in_front map kinds bytes (long_bytes s.front s.back s.len) s.len s.number same (known (omega arith))
 
   -- what stands in front is known from now on
-  pub long_known_now : (insn : Insn) (number : ℕ) → slice_get kinds number ≡ Some insn → insn.len ≡ len → StandsInFront map bytes insn → IsLongSpelling map kinds (record { front = front; back = back; number = number; len = len })
-  long_known_now insn number at same_len stands some = spelled_now map kinds bytes (long_bytes front back len) len number insn same_long at same_len stands
+  pub long_known_now : (insn : Insn) (number : ℕ) → is_told_alone map insn.op ≡ true → slice_get kinds number ≡ Some insn → insn.len ≡ len → StandsInFront map bytes insn → IsLongSpelling map kinds (record { front = front; back = back; number = number; len = len })
+  long_known_now insn number alone at same_len stands some = spelled_now map kinds bytes (long_bytes front back len) len number insn alone same_long at same_len stands
 
 -- one that is looked up is among those that are known
 pub long_looked_up : (map : Map) (kinds : List Insn) (spellings now : List LongSpelling) (place : ℕ) (s : LongSpelling) → now ≡ spellings → All (IsLongSpelling map kinds) spellings → place < length now → s ≡ get_or now place s → IsLongSpelling map kinds s
@@ -163,7 +174,7 @@ long_looked_up map kinds spellings now place s same all inside is = subst (IsLon
 
 module _ (kinds more : List Insn) (kept : (k : ℕ) (kind : Insn) → slice_get kinds k ≡ Some kind → slice_get more k ≡ Some kind) where
   still_spells : (map : Map) (bytes : List ℕ) (len number : ℕ) → SpellsKind map kinds bytes len number → SpellsKind map more bytes len number
-  still_spells map bytes len number is = record { insn = is.insn; at = kept number is.insn is.at; long = is.long; spells = is.spells }
+  still_spells map bytes len number is = record { insn = is.insn; at = kept number is.insn is.at; long = is.long; stands = is.stands }
 
   -- what is known stays true
   pub still_spellings : (known : Known) → AreSpellings kinds known → AreSpellings more known

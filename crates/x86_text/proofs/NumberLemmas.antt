@@ -49,7 +49,13 @@ module _ (body : Body) (i off : ℕ) (its : IsNumbered body i off) where
         differ : (insn : Insn) → (let x : Result Insn DecodeFault = Ok insn in x ≡ Err why) → ⊥
         differ insn e = grind (arith, e)
 
-    -- and what it gives is the listed one
+    -- what it gives stands there
+    pub gives_stands : (insn : Insn) → result ≡ Ok insn → StandsInFront body.map (drop off body.bytes) insn
+    gives_stands insn is =
+        let whole : take (length body.bytes - off) (drop off body.bytes) ≡ drop off body.bytes = take_all _ _ (simp length-drop (omega arith)) in
+        subst (λ (bytes : List ℕ). StandsInFront body.map bytes insn) whole ((ok insn).0 is)
+
+    -- and is the listed one
     pub gives_listed : (insn : Insn) → result ≡ Ok insn → slice_get (code_of body) i ≡ Some (record { off = off; insn = insn })
     gives_listed insn is = its.listed ∙ placed_same its.p its.at (same_ok its.p.insn insn (sym gives ∙ is))
       where

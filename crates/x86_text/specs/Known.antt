@@ -1,10 +1,12 @@
 -- Spellings that were read before.
-use Rattle.std.specs.Prelude.{◌≡◌, Bool, ℕ, ◌-◌, ◌<◌, ◌++◌, List, Some, take, drop, slice_get, All}
+use Rattle.std.specs.Prelude.{◌≡◌, Bool, true, false, ℕ, ◌-◌, ◌<◌, ◌++◌, List, Some, take, drop, slice_get, All}
 use Rattle.std.specs.Int.{w64, to_le_bytes}
 use Rattle.operation_defs.specs.declared.insn.Insn.{Insn}
+use Rattle.operation_defs.specs.declared.op.Op.{Op}
+use Rattle.operation_defs.specs.declared.op.Op.TheVariants.{Ud2}
 use Rattle.x86_map.specs.declared.map.Map.{Map}
+use Rattle.x86_map.specs.declared.map.Map.TheVariants.{Base, Whole}
 use Rattle.x86_decode.specs.Decoding.{StandsInFront}
-use Rattle.x86_decode.specs.Spelling.{Spells}
 use Rattle.x86_text.specs.Code.{may_use_table}
 use Rattle.x86_text.specs.declared.known.Found.{Found}
 use Rattle.x86_text.specs.declared.known.Known.{Known}
@@ -19,12 +21,19 @@ upper_bytes number len = drop (8 - len) (to_le_bytes w64 number)
 abbrev pub long_bytes : ℕ → ℕ → ℕ → List ℕ
 long_bytes front back len = take (len - 8) (to_le_bytes w64 front) ++ to_le_bytes w64 back
 
--- these bytes, so many, spell the instruction with this number among these
+-- an instruction with this operation is told by its own bytes; a ud2 of the whole map is told by those behind it too, with which it
+-- may begin an emulated instruction
+abbrev pub is_told_alone : Map → Op → Bool
+is_told_alone Base op = true
+is_told_alone Whole Ud2 = false
+is_told_alone Whole op = true
+
+-- these bytes, so many, are the instruction with this number among these, whatever stands behind them
 pub record SpellsKind (map : Map) (kinds : List Insn) (bytes : List ℕ) (len number : ℕ) : Type 0 where
   pub insn : Insn
   pub at : slice_get kinds number ≡ Some insn
   pub long : insn.len ≡ len
-  pub spells : Spells map bytes insn
+  pub stands : (behind : List ℕ) → StandsInFront map (bytes ++ behind) insn
 
 -- the same, and whether it may jump by a table
 pub record SpellsShort (map : Map) (kinds : List Insn) (bytes : List ℕ) (len number : ℕ) (may_jump : Bool) : Type 0 where
@@ -43,7 +52,7 @@ pub record IsFoundInFront (map : Map) (kinds : List Insn) (bytes : List ℕ) (fo
   pub long : kind.insn.len ≡ found.len
   pub jumps : may_use_table kind.insn.op ≡ found.may_jump
 
--- its bytes spell its instruction; without a length it is none yet
+-- its bytes are its instruction; without a length it is none yet
 abbrev pub IsSpelling : Map → List Insn → Spelling → Type 0
 IsSpelling map kinds s = 0 < s.len → SpellsShort map kinds (upper_bytes s.front s.len) s.len s.number s.may_jump
 

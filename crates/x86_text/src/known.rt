@@ -5,7 +5,7 @@ ghost use Rattle.std.specs.Int.{w64, to_le_bytes};
 ghost use Rattle.operation_defs.specs.declared.insn.Insn.{Insn as AnInsn};
 ghost use Rattle.x86_decode.specs.Decoding.{StandsInFront};
 ghost use Rattle.x86_text.specs.Code.{may_use_table as may_use_a_table};
-ghost use Rattle.x86_text.specs.Known.{upper_bytes, AreSpellings, IsFoundInFront, IsKindInFront};
+ghost use Rattle.x86_text.specs.Known.{is_told_alone, upper_bytes, AreSpellings, IsFoundInFront, IsKindInFront};
 
 use crate::guess::likely_len;
 use operation_defs::{Insn, Op};
@@ -166,10 +166,14 @@ impl Known {
         }
     }
 
-    /// Keeps the spelling with which the bytes begin, which are as many as its instruction has, with the instruction's number.
+    /// Keeps the spelling with which the bytes begin, which are as many as its instruction has, with the instruction's number,
+    /// if these bytes tell the instruction alone.
     pub(crate) fn note(&mut self, bytes: &[u8], insn: Insn, number: u32)
         ensures { (kinds : List AnInsn) → AreSpellings kinds self.old → slice_get kinds number ≡ Some insn → StandsInFront self.old.map bytes.now insn → AreSpellings kinds self.new }
     {
+        if !is_told_alone(self.map, insn.op) {
+            return;
+        }
         if let Some(first) = first_eight(bytes) {
             let len = insn.len;
             if let Some(front) = upper_of(first, len) {
@@ -195,6 +199,14 @@ impl Known {
             }
         }
     }
+}
+
+/// Whether an instruction with this operation is told by its own bytes. A ud2 of the whole map isn't: with those behind it it may
+/// begin an emulated instruction.
+fn is_told_alone(map: Map, op: Op) -> bool
+    ensures { result ≡ is_told_alone map op }
+{
+    !matches!((map, op), (Map::Whole, Op::Ud2))
 }
 
 /// Whether an operation may jump by a table.
