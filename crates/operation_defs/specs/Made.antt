@@ -28,8 +28,8 @@ pub record Around : Type 0 where
 
 -- What a program makes of a decoded operation.
 abbrev pub made : Around → Op → Op
--- 1. a call within a function is a push and a jump; any other call of code that returns for its caller is a jump there
-made around (Call rel) = if around.intra_call then Hop else if around.returning then Jmp rel true else Call rel
+-- 1. a call of code that returns for its caller is a jump there; any other within a function is a push and a jump
+made around (Call rel) = if around.returning then Jmp rel true else if around.intra_call then Hop else Call rel
 -- 2. in a function that makes room rbp is set as the base over room
 made around (LeaBpSp by) = if around.makes_room then LeaBpRoom by else LeaBpSp by
 -- 3. an IRET with its function behind it goes on behind itself

@@ -14,9 +14,9 @@ pub record HasWorkedMade : Type 0 where
   -- a call is one within its function where its place is listed
   pub hop : made (record in_function { intra_call = true }) (Call (pos 1)) ≡ Hop
   pub call : made in_function (Call (pos 1)) ≡ Call (pos 1)
-  -- a call of code that returns for its caller is a jump, unless it is one within its function
+  -- a call of code that returns for its caller is a jump, also where its place is listed
   pub returning_call : made (record in_function { returning = true }) (Call (pos 1)) ≡ Jmp (pos 1) true
-  pub hop_first : made (record in_function { intra_call = true; returning = true }) (Call (pos 1)) ≡ Hop
+  pub returning_first : made (record in_function { intra_call = true; returning = true }) (Call (pos 1)) ≡ Jmp (pos 1) true
   -- rbp is set as the base over room in a function that makes room
   pub over_room : made (record in_function { makes_room = true }) (LeaBpSp (pos 8)) ≡ LeaBpRoom (pos 8)
   pub without_room : made in_function (LeaBpSp (pos 8)) ≡ LeaBpSp (pos 8)
