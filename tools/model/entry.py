@@ -95,12 +95,12 @@ def entry_warnings(flow: Flow, noinstr: bool, sls: bool, ibt: bool) -> list[Warn
 
 
 def entry(data: bytes, rules: tuple[bool, bool, bool], whole: bool = False, names_file: Optional[bytes] = None) -> Answer:
-    """The answer of `entry` where these of `--noinstr`, `--sls` and `--ibt` are given."""
+    """The answer of `entry` where these of `--noinstr`, `--sls` and `--ibt` are given. Where none is, all are asked for."""
 
     def answer() -> Answer:
         object, names = object_of(data, names_file)
         flow = graph_of(object, names, whole)
-        warnings = entry_warnings(flow, *rules)
+        warnings = entry_warnings(flow, *(rules if any(rules) else (True, True, True)))
         return Answer(WARNINGS if warnings else DONE, [warning_text(object, warning) for warning in warnings])
 
     return answered(answer)

@@ -18,10 +18,18 @@ pub struct EntryAsked<'a> {
     pub names: Option<&'a str>,
 }
 
-/// The entry rules that the words ask for.
+/// The entry rules that the words ask for: those that their options name, or all where they name none.
 pub fn entry_options(rules: EntryRules) -> EntryOptions
     ensures { result ≡ entry_options rules }
 {
     let EntryRules { noinstr, sls, ibt } = rules;
-    EntryOptions { noinstr, sls, ibt }
+    if noinstr || sls || ibt {
+        EntryOptions { noinstr, sls, ibt }
+    } else {
+        EntryOptions {
+            noinstr: true,
+            sls: true,
+            ibt: true,
+        }
+    }
 }
