@@ -14,9 +14,14 @@ const ROWS: [Row; 11] = [
 refused: names file line N: bad word
 
 Line N of the names file, counted from 1, is wrong. With `bad word` its first
-word is neither noreturn nor uaccess; with `bad name` no single name follows
-it: one blank, and then printable characters without blanks, up to the line's
-end.
+word is none of noreturn, uaccess, loose and switch; with `bad name` no single
+name follows it: one blank, and then printable characters without blanks, up
+to the line's end.
+
+noreturn NAME says that the function never returns (rule 2), uaccess NAME that
+it may be called with user access on (rule 41), loose NAME that its code is
+checked as far as it can be followed, and switch NAME that it switches tasks
+(rule 7 tells of both).
 
 Mind blanks at the end, tabs, and ends of lines as CR LF. A comment has a line
 of its own, which begins with #. share/linux.names is an example.

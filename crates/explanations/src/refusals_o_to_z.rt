@@ -19,10 +19,10 @@ one such place keeps the object from being checked.
 
 Try --all-opcodes: without it vector instructions (SSE, AVX), those of virtual
 machines and newer system instructions are outside of the map. docs/OPCODES.md
-has what stays out even then: APX, XOP, MPX, 3DNow!, FRED's returns and
-others. Else the bytes are data in a text section, a jump table or a string,
-which belongs into .rodata; or the prefixes don't go with the opcode, such as
-66 before a push, a pop or a near branch. `objdump -d` shows what it may be.
+has what stays out even then: APX, XOP, MPX, 3DNow! and others. Else the bytes
+are data in a text section, a jump table or a string, which belongs into
+.rodata; or the prefixes don't go with the opcode, such as 66 before a push, a
+pop or a near branch. `objdump -d` shows what it may be.
 ",
     ),
     (

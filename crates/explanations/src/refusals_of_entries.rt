@@ -36,6 +36,9 @@ In assembly UNWIND_HINT_REGS was given another base (`base=%rdi`), or
 UNWIND_HINT another sp_reg. It is a limit of this tool that hints over other
 registers aren't read. Where the frame can be told from rsp, tell it so; else
 take the hint out, or end the stack there (UNWIND_HINT_UNDEFINED).
+
+Code that is listed as loose (`loose NAME` in a file that --names gives) is
+not refused for such a hint, which ends the stack there.
 ",
     ),
     (
@@ -51,6 +54,9 @@ in a hint of type CALL, whose frame has the return address at least, or below
 Look at the offset that is given to UNWIND_HINT_REGS or UNWIND_HINT, where it
 is reckoned from a constant above all. It counts the bytes from rsp up to the
 frame's top, or to the saved registers.
+
+Code that is listed as loose (`loose NAME` in a file that --names gives) is
+not refused for such a hint, which ends the stack there.
 ",
     ),
     (
@@ -68,6 +74,9 @@ The kernel's UNWIND_HINT_REGS, UNWIND_HINT_IRET_REGS and UNWIND_HINT_FUNC set
 it so. A hint that is written by UNWIND_HINT itself needs signal=1 over saved
 registers and signal=0 else. Objects of other kernels may have hints of
 another layout.
+
+Code that is listed as loose (`loose NAME` in a file that --names gives) is
+not refused for such a hint, which ends the stack there.
 ",
     ),
     (

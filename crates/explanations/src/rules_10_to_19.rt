@@ -38,7 +38,8 @@ In assembly rbp was pushed, and then rsp is raised over it by `add` or by a
 pop into another register. Pop rbp itself, use `leave`, or load rbp before rsp
 is raised. `leave` needs rbp to point at the word that it was pushed to. Over
 saved registers (UNWIND_HINT_REGS) it says that a pop, or a number, takes rsp
-beyond the words that a walk still reads there.
+beyond the words that a walk still reads there. Code that is listed as loose
+(rule 7) doesn't break this rule.
 ",
     ),
     (
@@ -93,6 +94,12 @@ assembly it is code whose address is kept somewhere: say at its start what the
 stack is, by UNWIND_HINT_FUNC, UNWIND_HINT_REGS or UNWIND_HINT_UNDEFINED, or
 make it a function (SYM_FUNC_START). Remove what nothing uses. nop, int3 and
 ud2 as padding aren't told.
+
+A linker that drops a weak definition leaves its code without a symbol: a
+hole. Where objects were joined, as two file symbols show or --link says,
+holes aren't told, nor are parts of functions that a hole jumps to. Behind ud2
+and the letters xen or kvm a hypervisor goes on: with --all-opcodes they are
+read as one instruction with the one behind them.
 ",
     ),
     (
@@ -111,8 +118,9 @@ In assembly the hint before it is wrong, or one is missing: UNWIND_HINT_FUNC
 where the stack is as at a function's entry, UNWIND_HINT_IRET_REGS where rsp
 stands at the five words of an iret, UNWIND_HINT_END_OF_STACK or
 UNWIND_HINT_UNDEFINED where no caller is left. Code of no function
-(SYM_CODE_START) may return or jump outside whatever the stack is, as long as
-it drops no bytes and goes to no function of this object. An iret inside a
+(SYM_CODE_START), and loose code (rule 7), may return or jump outside whatever
+the stack is, as long as it drops no bytes; and to a function of this object
+by a global symbol's name, as before objects were joined. An iret inside a
 function, by which it serializes the processor, is read as going on behind
 itself where that is the function's own code; so is a system call where a hint
 stands there besides (UNWIND_HINT_FUNC, UNWIND_HINT_RESTORE).
@@ -131,8 +139,10 @@ In assembly a call only to learn its own address, or to fill the return stack
 (`call 1f; 1: add $8,%rsp`), is listed by ANNOTATE_INTRA_FUNCTION_CALL in
 front of it, and then followed like a jump that pushes a word. A label that is
 called from elsewhere is to be a function (SYM_FUNC_START_LOCAL). Code of no
-function may call code of no function where a hint at its start tells a call's
-frame (UNWIND_HINT_FUNC) or ends the stack.
+function may be called by code of no function, and by a function that names it
+by a global symbol, where a hint at its start tells a call's frame
+(UNWIND_HINT_FUNC) or ends the stack. Where the hint tells saved registers, as
+at an exception's entry, such a function may call it as code outside.
 ",
     ),
     (

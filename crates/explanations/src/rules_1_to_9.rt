@@ -39,11 +39,13 @@ there would take a wrong word for the return address.
 Mostly the last instruction is a call of a function that never returns, which
 nothing says. If so, list it: a line `noreturn NAME` in a file that --names
 gives. In C its declaration has __noreturn, which the object doesn't show. The
-file share/linux.names has the names of Linux 6.6. Else a return or jump is
-missing, as where C runs off the end of a function because of undefined
-behavior, or where assembly goes on into the next SYM_FUNC_START: end it by a
-jump. unreachable() marks a place that isn't passed (`.discard.unreachable`),
-and behind ud2 nothing goes on.
+files share/linux.names and share/linux-6.12.names have the names of Linux 6.6
+and 6.12. Else a return or jump is missing, as where C runs off the end of a
+function because of undefined behavior, or where assembly goes on into the
+next SYM_FUNC_START: end it by a jump. unreachable() marks a place that isn't
+passed (`.discard.unreachable`), and behind ud2 nothing goes on; behind a call
+whose end is marked in `.discard.reachable` control goes on, whatever it
+calls.
 ",
     ),
     (
@@ -142,6 +144,13 @@ or restores the state the write is allowed. Or set up a frame first
 (`push %rbp`, `mov %rsp,%rbp`), or name the function by
 STACK_FRAME_NON_STANDARD. It is a limit of this tool where a second register
 keeps rsp all the while.
+
+Code that can't be followed, as where it leaves its stack for good, is listed
+as loose: a line `loose NAME` in a file that --names gives. It is checked, but
+where rule 7, 8, 9 or 11 would be told nothing is known of the stack, up to
+the next hint. Code that stores rsp of one task and loads that of another is
+listed by `switch NAME`: its load of rsp from memory is followed as one that
+this task comes back from, with rsp as it was and rbp another.
 ",
     ),
     (
@@ -160,6 +169,7 @@ Push rbp first and pop it at the end, or use another register. It also shows
 where rbp is popped, or set up as a frame pointer, and no push stands before
 it on this way; then the push is missing. Over saved registers
 (UNWIND_HINT_REGS) rbp may be written; where they are partial ones it may not.
+Code that is listed as loose (rule 7) doesn't break this rule.
 ",
     ),
     (
@@ -180,7 +190,8 @@ the stack back by `leave` or by lea from rbp, not by adding a number. It can
 be a limit of this tool: compilers that realign the stack through a register
 other than rbp (`lea 8(%rsp),%r10; and $-32,%rsp`) aren't followed. Do without
 the alignment (-mpreferred-stack-boundary, no __aligned locals), or name the
-function by STACK_FRAME_NON_STANDARD.
+function by STACK_FRAME_NON_STANDARD. Code that is listed as loose (rule 7)
+doesn't break this rule.
 ",
     ),
 ];

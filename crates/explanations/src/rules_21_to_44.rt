@@ -39,7 +39,8 @@ In C build with -mindirect-branch=thunk-extern (gcc) or
 through a table is one too. In assembly take CALL_NOSPEC and JMP_NOSPEC, which
 go through __x86_indirect_thunk_*. Where the branch is safe as it is, as in
 code that runs once at boot, put ANNOTATE_RETPOLINE_SAFE right in front of it
-(`.discard.retpoline_safe`).
+(`.discard.retpoline_safe`). In `.init.text`, which in a kernel runs before
+user space does, this rule is looked for with --module alone.
 ",
     ),
     (
@@ -55,7 +56,9 @@ miss it.
 In C build with -mfunction-return=thunk-extern. In assembly write RET in place
 of ret: it becomes a jump to __x86_return_thunk. Where a bare return is meant,
 as in the thunk itself, put ANNOTATE_UNRET_SAFE right in front of it: it makes
-an entry of `.discard.retpoline_safe`, which is what is looked at.
+an entry of `.discard.retpoline_safe`, which is what is looked at. In
+`.init.text`, which in a kernel runs before user space does, this rule is
+looked for with --module alone.
 ",
     ),
     (

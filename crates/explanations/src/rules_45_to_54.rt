@@ -20,7 +20,7 @@ CLACs is needless, or stands on a way that was meant otherwise.
 In C user_access_end() is called where user_access_begin() has failed or
 wasn't called, mostly behind an error label that two ways lead to. A function
 that is called between STAC and CLAC is to be listed (`uaccess NAME`, by
---names).
+--names). Code of no function may turn off what is off.
 ",
     ),
     (
@@ -48,13 +48,14 @@ rule 47: popf where user access is tracked
 
 With --uaccess. The instruction pops the flags, and with them the one that
 says whether user access is on (AC), from a word that isn't followed. What is
-known of user access behind it might be wrong, so no popf may be reached,
-wherever it stands.
+known of user access behind it might be wrong, so no popf may be reached with
+user access on. Where access is off a popf leaves it off: it is taken that
+flags which are loaded there were saved with access off.
 
 In inline assembly that restores interrupt flags, test the saved flag and use
 sti, as arch_local_irq_restore() does. user_access_restore() pops the flags on
 purpose: that this isn't followed is a limit of this tool, and an object that
-has it is to be checked without --uaccess.
+breaks the rule by it is to be checked without --uaccess.
 ",
     ),
     (
