@@ -5,4 +5,5 @@ pub mod WorkedWrecks
 pub mod WorkedHints
 pub mod WorkedWays
 pub mod WorkedWarnings
+pub mod WorkedAccessOff
 pub mod WorkedAccess

@@ -8,7 +8,7 @@ use Rattle.state_defs.specs.Region.{Holds}
 use Rattle.state_defs.specs.Frame.{FullAt, Frame, Protected, AreKept}
 use Rattle.state_defs.specs.Effect.{IsInStack}
 use Rattle.machine_defs.specs.Machine.{IsOutside, At}
-use Rattle.machine_defs.specs.Step.{goes_on}
+use Rattle.machine_defs.specs.Step.{is_firm, goes_on}
 use Rattle.machine_defs.specs.Run.{outermost, MayStart, WasCalled, at_call_hint, at_regs_hint, at_end_hint, Run, started, stepped}
 use Rattle.machine_defs.specs.WorkedSteps.{base}
 use Rattle.machine_defs.specs.WorkedHints.{hinted, registers, at_hint, called, mark, RunsFromHints}
@@ -26,7 +26,7 @@ high_outside text (zero, below, is) = inr (rw (sym is) (lit≤ tt))
 high_outside text (suc k, below, is) = absurd (omega (arith, below))
 
 may_start : (q : ℕ) → q < 5 → MayStart hinted q
-may_start q below = record { point = below; plain = refl; checked = refl; outside = λ site c. absurd (let none : c.0 < 0 = c.1 in omega arith) }
+may_start q below = record { plain_point = q; point = below; plain = refl; outside = λ site c. absurd (let none : c.0 < 0 = c.1 in omega arith); arrives = inl refl; checked = refl }
 
 slot : ℕ → ℕ → Protected
 slot at value = record { at = at; value = value }
@@ -51,14 +51,14 @@ to_save : Run hinted base (At (at_hint 1 0x80A0 called None (Some mark)))
 to_save =
     stepped (At (at_hint 0 0x80A0 called None None)) (At (at_hint 1 0x80A0 called None (Some mark))) from_call
     (goes_on (at_hint 0 0x80A0 called None None) (at_hint 1 0x80A0 called None None) (at_hint 1 0x80A0 called None (Some mark))
-    (record { kind = Next; local = refl; along = (0, lit< tt, refl); effect = refl; level = record { ended = refl; mark = refl } }) refl)
+    (record { kind = Next; local = refl; along = (0, lit< tt, refl); effect = refl; ended = is_firm refl refl; mark = refl }) refl)
     (in_registers 0x80A0 called (lit≤ tt) (lit≤ tt))
 
 to_restore : Run hinted base (At (at_hint 2 0x80A0 called None (Some mark)))
 to_restore =
     stepped (At (at_hint 1 0x80A0 called None (Some mark))) (At (at_hint 2 0x80A0 called None (Some mark))) to_save
     (goes_on (at_hint 1 0x80A0 called None (Some mark)) (at_hint 2 0x80A0 called None (Some mark)) (at_hint 2 0x80A0 called None (Some mark))
-    (record { kind = Next; local = refl; along = (0, lit< tt, refl); effect = refl; level = record { ended = refl; mark = refl } })
+    (record { kind = Next; local = refl; along = (0, lit< tt, refl); effect = refl; ended = is_firm refl refl; mark = refl })
     (record { mark = mark; last = refl; meant = refl; rsp = refl; rbp = refl; slot = refl; after = refl; slots = kept }))
     (in_registers 0x80A0 called (lit≤ tt) (lit≤ tt))
 

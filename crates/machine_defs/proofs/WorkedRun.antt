@@ -9,7 +9,7 @@ use Rattle.state_defs.specs.Frame.{Unsaved, Frame}
 use Rattle.state_defs.specs.Effect.{IsInStack, Effect}
 use Rattle.machine_defs.specs.Machine.{Bases, IsOutside, Standing, At}
 use Rattle.machine_defs.specs.Hint.{Hinted, Lands}
-use Rattle.machine_defs.specs.Step.{op_at, SameLevel, goes_on}
+use Rattle.machine_defs.specs.Step.{op_at, SameLevel, is_firm, goes_on}
 use Rattle.machine_defs.specs.Run.{outermost, Run, at_entry, started, stepped}
 use Rattle.machine_defs.specs.Worked.{framed, zeros, after_push, HasWorkedRun}
 use Rattle.machine_defs.specs.Worked as w
@@ -41,8 +41,8 @@ called p bases entry q bp listed arrives none small outside =
     (in_zeros 0x8008 bp (outermost 0 0x8010 bp Unsaved false ∷ []) (lit≤ tt) (lit≤ tt) small)
 
 -- an instruction goes on to a point without a hint
-pub goes : (p : Program) (bases : Bases) (s t : Standing) (kind : EdgeKind) → Run p bases (At s) → is_local kind ≡ true → Contains (p.goes s.point) (edge t.point kind) → Effect (op_at p s) s.core t.core → SameLevel s t → p.hint t.point ≡ None → IsInStack t.core → Run p bases (At t)
-goes p bases s t kind run local along effect level none stack = stepped (At s) (At t) run (goes_on s t t (record { kind = kind; local = local; along = along; effect = effect; level = level }) (lands p t none)) stack
+pub goes : (p : Program) (bases : Bases) (s t : Standing) (kind : EdgeKind) → Run p bases (At s) → is_local kind ≡ true → Contains (p.goes s.point) (edge t.point kind) → Effect (op_at p s) s.core t.core → p.loose s.point ≡ false → SameLevel s t → p.hint t.point ≡ None → IsInStack t.core → Run p bases (At t)
+goes p bases s t kind run local along effect firm level none stack = stepped (At s) (At t) run (goes_on s t t (record { kind = kind; local = local; along = along; effect = effect; ended = is_firm firm level.ended; mark = level.mark }) (lands p t none)) stack
 
 outside : IsOutside framed (λ _. 0x1000) 18446744073709551615
 outside text (zero, below, is) = inr (rw (sym is) (lit≤ tt))
@@ -53,4 +53,4 @@ pub runs : HasWorkedRun
 runs =
     goes framed (λ _. 0x1000) w.at_entry after_push Next (called framed (λ _. 0x1000) 0 0 0 (0, lit< tt, refl) (0, lit< tt, refl) refl (lit< tt) outside) refl (0, lit< tt, refl)
     (record { only = record { addresses = record { lo = refl; size = refl }; others = λ address h. refl }; word = refl }, refl)
-    (record { ended = refl; mark = refl }) refl (in_zeros 0x8000 0 after_push.core.shadow (lit≤ tt) (lit≤ tt) (lit< tt))
+    refl (record { ended = refl; mark = refl }) refl (in_zeros 0x8000 0 after_push.core.shadow (lit≤ tt) (lit≤ tt) (lit< tt))

@@ -1,12 +1,15 @@
 -- A run that takes each step once.
-use Rattle.std.proofs.Common.{ℕ, zero, suc, ◌<◌, ◌≤◌, false, List, [], ◌∷◌, refl, inl, inr, sym, arith, lit<, lit≤}
+use Rattle.std.proofs.Common.{ℕ, zero, suc, ◌<◌, ◌≤◌, ◌≡◌, ◌⊎◌, false, List, [], ◌∷◌, refl, inl, inr, sym, arith, lit<, lit≤, pos, Some, Contains}
 use Rattle.machine_defs.specs.declared.flow.EdgeKind.TheVariants.{Next}
 use Rattle.state_defs.specs.Region.{Holds}
 use Rattle.state_defs.specs.Frame.{Unsaved, Frame, Protected, AreKept}
 use Rattle.state_defs.specs.Effect.{IsInStack}
+use Rattle.state_defs.specs.declared.state.State.TheVariants.{Regs}
+use Rattle.state_defs.specs.declared.state.HintState.TheVariants.{Set}
+use Rattle.machine_defs.specs.Program.{entry_points}
 use Rattle.machine_defs.specs.Machine.{IsOutside, Standing, At}
 use Rattle.machine_defs.specs.Hint.{Lands}
-use Rattle.machine_defs.specs.Step.{IsGate, sibling, Step, goes_on, faults, calls_in, calls_out, returns, tail_calls, interrupted, irets, interrupt_frame}
+use Rattle.machine_defs.specs.Step.{IsGate, sibling, is_firm, Step, goes_on, faults, calls_in, calls_out, returns, tail_calls, interrupted, irets, interrupt_frame}
 use Rattle.machine_defs.specs.Run.{at_entry, Run, started, stepped}
 use Rattle.machine_defs.specs.WorkedSteps.{stepping, base, stack, frame_of_f, frame_of_g, at_call, at_push, at_pop, at_gate, at_return, in_f, TakesEachStep}
 use Rattle.state_defs.proofs.WorkedBytes.{are_bytes, five, stays, stores_nothing}
@@ -32,11 +35,16 @@ call : Step stepping base (At at_call) (At at_push)
 call = calls_in at_call at_push at_push (record { entry = 5; target = refl; arrives = (0, lit< tt, refl); pushed = record { only = stays stack 0x8000 8; word = refl }; core = refl; ended = refl; mark = refl }) refl
 
 pushes : Step stepping base (At at_push) (At at_pop)
-pushes = goes_on at_push at_pop at_pop (record { kind = Next; local = refl; along = (0, lit< tt, refl); effect = (record { only = stays stack 0x7FF8 8; word = refl }, refl); level = record { ended = refl; mark = refl } }) refl
+pushes = goes_on at_push at_pop at_pop (record { kind = Next; local = refl; along = (0, lit< tt, refl); effect = (record { only = stays stack 0x7FF8 8; word = refl }, refl); ended = is_firm refl refl; mark = refl }) refl
+
+-- control that comes to the gate stands at it
+at_gate_alone : (r : ℕ) → Contains (entry_points stepping 8) r → (r ≡ 8) ⊎ ((stepping.own_hint r ≡ false) × (stepping.hint r ≡ Some (Set (Regs false (pos 0)))))
+at_gate_alone r (zero, below, is) = inl (sym is)
+at_gate_alone r (suc k, below, is) = absurd (omega (arith, below))
 
 -- the interrupt's gate, whose hint is true
 gate : IsGate stepping 8 0
-gate = record { point = lit< tt; plain = refl; free = refl; outside = λ site c. absurd (let below : c.0 < 0 = c.1 in omega arith); error_code = inl refl; hint = refl }
+gate = record { point = lit< tt; plain = refl; free = refl; at_start = λ site c. absurd (let below : c.0 < 0 = c.1 in omega arith); error_code = inl refl; hint = refl; counts = at_gate_alone }
 
 -- the slots of the frames there
 slot : ℕ → ℕ → Protected
@@ -53,7 +61,7 @@ hint : Lands stepping at_gate at_gate
 hint = (refl, refl, record { at = 0x7FC8; slot = refl; depth = refl; floor = omega arith; bp = refl; below = lit≤ tt }, kept)
 
 comes : Step stepping base (At at_pop) (At at_gate)
-comes = interrupted at_pop at_gate at_gate (record { n = 0; gate = gate; only = stays stack 0x7FC8 40; ra = refl; cfa = refl; core = refl; ended = refl; mark = refl }) hint
+comes = interrupted at_pop at_gate at_gate (record { n = 0; entered = 8; gate = gate; arrives = (0, lit< tt, refl); only = stays stack 0x7FC8 40; ra = refl; cfa = refl; core = refl; ended = refl; mark = refl }) hint
 
 goes_back : Step stepping base (At at_gate) (At at_pop)
 goes_back = irets at_gate at_pop (record {
@@ -70,7 +78,7 @@ goes_back = irets at_gate at_pop (record {
 })
 
 pops : Step stepping base (At at_pop) (At at_return)
-pops = goes_on at_pop at_return at_return (record { kind = Next; local = refl; along = (0, lit< tt, refl); effect = (refl, refl); level = record { ended = refl; mark = refl } }) refl
+pops = goes_on at_pop at_return at_return (record { kind = Next; local = refl; along = (0, lit< tt, refl); effect = (refl, refl); ended = is_firm refl refl; mark = refl }) refl
 
 comes_back : Step stepping base (At at_return) (At (in_f 1))
 comes_back = returns at_return (in_f 1) (in_f 1) (record {

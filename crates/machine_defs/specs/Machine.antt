@@ -29,8 +29,8 @@ abbrev pub IsOutside : Program → Bases → ℕ → Type 0
 IsOutside p bases address = (text : TextSection) → Contains p.texts text → (address < bases text.sec) ⊎ (bases text.sec + text.size ≤ address)
 
 -- A state in which the machine stands at a point, its instruction not yet executed: the registers,
--- the stack in memory and the shadow call stack; the kind of hint that ended the stack, if one did;
--- and the last SAVE hint passed on this level.
+-- the stack in memory and the shadow call stack; how the stack has ended, if a hint ended it, or loose
+-- code lost it; and the last SAVE hint passed on this level.
 pub record Standing : Type 0 where
   pub point : ℕ
   pub core : Core
@@ -59,10 +59,11 @@ abbrev pub walked : Frame → WalkedFrame
 walked f = record { ra = f.ra; cfa = f.cfa; bp = f.bp }
 
 -- the frames of a state, the innermost first: those of the shadow call stack, call frames and
--- interrupt frames alike, down to the first place whose hint ended the stack
+-- interrupt frames alike, down to the first place whose hint ended the stack, or from which on loose
+-- code has lost it
 abbrev pub frames : Standing → List WalkedFrame
 frames s = map walked (listed s.ended s.core.shadow)
 
--- the kind of hint that emptied or cut them, if one did
+-- how the stack has ended where they are empty or cut
 abbrev pub frames_end : Standing → Option EndKind
 frames_end s = end_of s.ended s.core.shadow

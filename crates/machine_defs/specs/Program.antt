@@ -27,8 +27,8 @@ pub record Site : Type 0 where
 pub record Program : Type 0 where
   -- How many points there are; they are numbered from 0 on. A plain point is an instruction of a text section.
   -- Each replacement of a site has a point for each of its instructions, and where it is shorter than its site
-  -- one padding point more: a Nop over the rest of the site, which has no hint, static branch, exception entry
-  -- or mark of a list, whatever the object says of its place.
+  -- one padding point more: a Nop over the rest of the site, which has no hint of its own, static branch, exception
+  -- entry or mark of a list, whatever the object says of its place.
   pub count : ℕ
   -- The instruction of a point: its length, and what a program makes of its decoded operation (`made`, in
   -- `operation_defs`). Premise *ways out come back*: an IRET, or a way out by the system, of which a program makes an
@@ -36,7 +36,9 @@ pub record Program : Type 0 where
   -- first finds rsp right above the five words that were pushed before it. Premise *a switched task comes back*: where code that
   -- switches tasks loads rsp, which a program makes a BpOther, the task finds rsp as it left it there, and meanwhile other
   -- tasks run, as code outside does. Premise *returning names return for their caller*: code at a returning name, of whose call
-  -- a program makes a Jmp with the role of a jump outside, takes its own return address off, if it was called, and returns.
+  -- a program makes a Jmp with the role of a jump outside, takes its own return address off, if it was called, and returns. Premise
+  -- *a hypervisor emulates and goes on*: what is spelled as a Ud2, a hypervisor's mark and an instruction, and is decoded as that
+  -- instruction, does what it does and goes on right behind it; without a hypervisor the Ud2 ends the run.
   pub insn : ℕ → Insn
   -- Where its bytes stand: of a padding point, the end of its replacement.
   pub place : ℕ → Place
@@ -55,7 +57,7 @@ pub record Program : Type 0 where
   -- Whether its section holds code to which control comes by patching alone: its name is `.altinstr_replacement` or
   -- `.altinstr_aux`.
   pub in_patches : ℕ → Bool
-  -- Whether its address lies in a symbol whose name is listed as one of loose code: such code is checked as far as it can be
+  -- Whether its address lies in a FUNC or NOTYPE symbol whose name is listed as one of loose code: such code is checked as far as it can be
   -- followed, and where a rule on rsp or rbp would be broken, the stack counts as ended from there on.
   pub loose : ℕ → Bool
   -- Whether its place is in no function, though a symbol of its section, other than section symbols, has a value at or below

@@ -39,10 +39,11 @@ as_any_write op = op
 abbrev pub op_at : Program → Standing → Op
 op_at p s = if is_some s.ended || is_before_hint p s.point then as_any_write (p.insn s.point).op else (p.insn s.point).op
 
--- The end of the stack behind an instruction that goes on: as before it. Loose code may lose the stack: where the state that is
--- kept behind it says that the stack has ended, it has.
+-- The end of the stack behind an instruction that goes on: as before it, but loose code may lose the stack. Where the state that
+-- is kept behind a loose point says that the stack has ended, it has. In code that isn't loose such a state is kept only where it
+-- has ended already.
 pub data EndedBehind (p : Program) (s t : Standing) : Type 0 where
-  stays : p.loose s.point ≡ false → t.ended ≡ s.ended → EndedBehind p s t
+  is_firm : p.loose s.point ≡ false → t.ended ≡ s.ended → EndedBehind p s t
   is_lost : (kind : EndKind) → p.loose s.point ≡ true → Kept p t.point (Ended kind) → t.ended ≡ Some kind → EndedBehind p s t
   is_kept : p.loose s.point ≡ true → ((kind : EndKind) → Kept p t.point (Ended kind) → ⊥) → t.ended ≡ s.ended → EndedBehind p s t
 

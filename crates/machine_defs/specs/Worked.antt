@@ -16,6 +16,7 @@ use Rattle.state_defs.specs.declared.state.State.TheVariants.{Live}
 use Rattle.state_defs.specs.Region.{Region, word_at}
 use Rattle.state_defs.specs.Frame.{Slot, Unsaved, SavedAt, FullAt, PartialAt, Frame, listed, end_of, protected, popped_slot}
 use Rattle.state_defs.specs.State.{initial}
+use Rattle.state_defs.specs.Move.{move}
 use Rattle.state_defs.specs.Row.{zero_row, row_of}
 use Rattle.machine_defs.specs.Program.{Program, edge}
 use Rattle.machine_defs.specs.Machine.{Standing, At}
@@ -83,7 +84,7 @@ pub record HasWorkedStates : Type 0 where
   pub framed_at_pop : state_at framed 2 2 ≡ Some (Live (Known (pos 16)) (Some (pos 16)) (Saved (pos 16)))
   pub at_return : state_at framed 3 3 ≡ Some initial
   -- a fixup gets the state before the push
-  pub at_fixup : brought_along initial PushBp Fixup ≡ initial ∷ []
+  pub at_fixup : brought_along initial (move initial PushBp) Fixup ≡ initial ∷ []
 
 -- its rows: sp+8; sp+16 with rbp saved; bp+16 with rbp saved; sp+8; and the end
 pub record HasWorkedRows : Type 0 where

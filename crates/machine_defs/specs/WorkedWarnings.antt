@@ -116,7 +116,7 @@ warned = record framed {
 }
 
 abbrev pub with_frames : Options
-with_frames = record { fp = true; retpoline = false; rethunk = false; uaccess = false; unreachable = false }
+with_frames = record { fp = true; retpoline = false; rethunk = false; uaccess = false; unreachable = false; link = false; «module» = false }
 
 -- a warning that tells no number
 abbrev pub WarnsAt : Place → ℕ → Type 0
