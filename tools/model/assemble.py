@@ -58,6 +58,8 @@ class Assembler:
         self.rng, self.short = rng, short
         self.parts: list[Part] = [Part("", 0, elf.NULL)]
         self.symbols: list[MadeSymbol] = []
+        # How many files it is made of, by its symbols.
+        self.files = 0
         self.fields: list[Field] = []
         # Distances in code: section, offset, bytes, label.
         self.distances: list[tuple[int, int, int, Label]] = []

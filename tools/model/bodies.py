@@ -28,6 +28,8 @@ class Frame:
         self.fp = False
         self.realigned = False
         self.access = False
+        # How often the stack was lost and told again.
+        self.lost = 0
         # What gives the stack back, the last first.
         self.undo: list[str] = []
 
@@ -94,11 +96,15 @@ class Body:
         """A way that ends: a call that doesn't return, a ud2, or an instruction marked as a dead end."""
         over = Label()
         self.jcc(over)
-        how = self.rng.choice(("panic", "ud2", "marked", "known", "reachable"))
-        if how == "panic":
+        how = self.rng.choice(("panic", "ud2", "marked", "known", "reachable", "called"))
+        if how in ("panic", "called"):
             self.asm.branch_out(self.sec, "e8", self.rng.choice(self.world.never))
+            if how == "called":
+                self.come_back(frame)
         elif how == "known" and self.world.stoppers:
             self.asm.branch(self.sec, "e8", self.rng.choice(self.world.stoppers))
+            if self.rng.random() < 0.4:
+                self.come_back(frame)
         elif how == "marked":
             self.emit(self.rng.choice((*PLAIN, "90", "ffd0")))
             self.asm.listed(".discard.unreachable", self.asm.here(self.sec))
@@ -107,6 +113,13 @@ class Body:
             if how == "reachable":
                 self.asm.listed(".discard.reachable", self.asm.here(self.sec))
         self.bind(over)
+
+    def come_back(self, frame: Frame) -> None:
+        """A mark behind a call, and what is reached by it alone."""
+        self.asm.listed(".discard.reachable", self.asm.here(self.sec))
+        self.emit(self.rng.choice(PLAIN))
+        if self.rng.random() < 0.3:
+            self.go_out(frame)
 
     def fault(self, frame: Frame, budget: int) -> None:
         """An instruction that may fault, and where it goes then."""
@@ -162,7 +175,9 @@ class Body:
         """Leaves the function: a return, or a jump to another one with the caller's frame."""
         self.give_back(frame)
         how = self.rng.choice(("ret", "ret", "ret", *self.world.ways_out))
-        if how == "ret":
+        if self.world.returning and self.rng.random() < 0.4:
+            self.world.go_by_caller(self)
+        elif how == "ret":
             self.emit(self.rng.choice(("c3", "c3", "f3c3")))
         elif how == "thunk":
             self.asm.branch_out(self.sec, "e9", RETURN)
@@ -310,6 +325,12 @@ class Body:
     def site(self, frame: Frame, budget: int) -> None:
         self.world.site(self, frame)
 
+    def run(self, frame: Frame, budget: int) -> None:
+        self.world.run_of_nops(self, frame)
+
+    def hinted_site(self, frame: Frame, budget: int) -> None:
+        self.world.hinted_site(self, frame)
+
     def save(self, frame: Frame, budget: int) -> None:
         """A SAVE, a way on which the stack ends, and the RESTORE behind it."""
         self.world.hint(self, 6)
@@ -334,5 +355,5 @@ class Body:
 
 
 def same(one: Frame, other: Frame) -> bool:
-    names = ("depth", "saved", "fp", "realigned", "access")
+    names = ("depth", "saved", "fp", "realigned", "access", "lost")
     return all(getattr(one, name) == getattr(other, name) for name in names)

@@ -5,8 +5,9 @@
 
 import random
 import sys
-from typing import Optional
+from typing import NamedTuple, Optional
 
+import by_hand
 from assemble import Assembler, Label
 from bodies import PLAIN, Body, Frame
 from elf import FUNC, GLOBAL, LOCAL, NOTYPE, WEAK
@@ -17,35 +18,54 @@ from world import World
 
 NAMES = ["f", "g0", "h", "copy_data", "memset", "safe_one", "rep_movs_alternative", "stop_here", "panic", "__fentry__"]
 NAMES += ["__x86_return_thunk", "__x86_indirect_thunk_rax", "odd\\name", "with blank", "größe", "x.cold.3"]
+MOST_FUNCTIONS = 4
+KINDS = ("plain",) * 7 + ("leaf", "stopper", "ended", "unchecked", "weak", "loose", "switch")
+UNOWNED = "gate", "full", "func", "end", "junk", "call", "gate_in_a_site", "called", "joined", "joined", "hole", "hole", "embedded", "loose"
+
+
+class Member(NamedTuple):
+    """What an object is among those that it is joined with: its functions are called by numbers from `first` on, and it may call the others
+    and define names that others define too."""
+
+    first: int = 0
+    others: tuple[str, ...] = ()
+    shared: tuple[str, ...] = ()
 
 
 class Maker:
     """Makes one object."""
 
-    def __init__(self, seed, short: bool = True, wrong_at: Optional[int] = None):
+    def __init__(self, seed, short: bool = True, wrong_at: Optional[int] = None, member: Member = Member()):
+        self.member = member
         self.rng = random.Random(f"{seed}/{short}")
         self.asm = Assembler(self.rng, short)
         self.world = World(self.asm, self.rng)
         self.asm.wrong_at = wrong_at
         self.asm.wrong = lambda code: spoil(random.Random(f"{seed}/wrong"), code)
         self.budget = self.rng.choice((1, 1, 2, 2, 3))
+        self.asm.files = self.rng.choice((1, 1, 1, 0)) if member.others else self.rng.choice((0, 0, 0, 0, 0, 1, 2))
 
     def make(self) -> Assembler:
         rng, asm = self.rng, self.asm
         text = asm.section(".text")
-        plans = []
-        for i in range(rng.randint(1, 4)):
-            name = rng.choice(NAMES) if rng.random() < 0.25 else f"f{i}"
+        plans, first = [], self.member.first
+        for i in range(rng.randint(1, MOST_FUNCTIONS)):
+            name = rng.choice(self.member.shared or NAMES) if rng.random() < 0.25 else f"f{first + i}"
             sec = asm.section(rng.choice((".init.text", ".init.text", ".text\\ odd"))) if rng.random() < 0.15 else text
-            plans.append((name if all(name != other for other, *_ in plans) else f"f{i}", sec, Label(sec)))
+            plans.append((name if all(name != other for other, *_ in plans) else f"f{first + i}", sec, Label(sec)))
+        kinds = ["weak" if name in self.member.shared and rng.random() < 0.7 else rng.choice(KINDS) for name, *_ in plans]
+        plans = [(by_hand.name_by_hand(rng, kind, name), sec, label) for (name, sec, label), kind in zip(plans, kinds)]
         self.world.functions = [label for *_, label in plans]
-        kinds = [rng.choice(("plain",) * 6 + ("leaf", "stopper", "ended", "unchecked", "weak")) for _ in plans]
+        self.world.names = [name for name, *_ in plans] + list(self.member.others)
+        self.world.outside += [*self.member.others, *self.member.shared]
         self.world.weak = [name for (name, *_), kind in zip(plans, kinds) if kind == "weak"]
         self.world.stoppers = [label for (*_, label), kind in zip(plans, kinds) if kind == "stopper"]
+        if rng.random() < 0.3:
+            self.unowned(text, rng.choice(("called", "called", "embedded")))
         for (name, sec, label), kind in zip(plans, kinds):
             self.function(name, sec, label, kind)
-            if rng.random() < 0.15:
-                self.unowned(sec)
+            if rng.random() < 0.25:
+                self.unowned(sec, rng.choice(UNOWNED))
             for _ in range(rng.choice((0, 0, 1, 3))):
                 asm.emit(sec, rng.choice(("cc", "90", "6690")))
         self.sections()
@@ -65,6 +85,10 @@ class Maker:
             asm.listed(".discard.func_stack_frame_non_standard", label)
         elif kind == "leaf":
             body.go_out(frame)
+        elif kind == "loose":
+            by_hand.loose_function(world, body, frame)
+        elif kind == "switch":
+            by_hand.switching_function(body)
         else:
             make = body.frame_pointer if rng.random() < 0.25 else body.block
             make(frame, self.budget)
@@ -108,12 +132,27 @@ class Maker:
             label.bind(body.sec, 0)
         return parts
 
-    def unowned(self, sec: int) -> None:
-        """Code of no function: an interrupt's gate, code that a hint begins, or code that nothing comes to."""
+    def unowned(self, sec: int, kind: str) -> None:
+        """Code of no function: an interrupt's gate, code that a hint begins, that functions call or that goes to them, or code that nothing
+        comes to."""
         rng, asm, world = self.rng, self.asm, self.world
         body, frame = Body(asm, rng, sec, world, False), Frame()
-        kind = rng.choice(("gate", "full", "func", "end", "junk", "call"))
-        if kind == "gate":
+        start = asm.here(sec)
+        if kind == "gate_in_a_site":
+            by_hand.gate_in_a_site(world, body)
+        elif kind == "called":
+            by_hand.called_code(world, body)
+        elif kind == "joined":
+            by_hand.joined_jump(world, body)
+        elif kind == "hole":
+            by_hand.hole(world, body, rng.choice(world.names))
+        elif kind == "embedded":
+            by_hand.embedded_code(world, body)
+        elif kind == "loose":
+            world.hint(body, 4, 0, 1)
+            by_hand.loose_function(world, body, frame)
+            body.emit("48cf")
+        elif kind == "gate":
             pushed = rng.choice((0, 8))
             world.hint(body, 4, pushed, 1)
             for code in ["50"] * (pushed == 0) + ["0f1f00"]:
@@ -135,6 +174,8 @@ class Maker:
             if kind == "call":
                 body.emit("4883c410")
             body.emit(rng.choice(("0f07", "48cf", "0f0b"))) if kind == "end" else body.go_out(frame)
+        if kind == "loose" or rng.random() < 0.05:
+            by_hand.odd_label(world, body, start, kind == "loose")
         self.later("", body)
 
     def sections(self) -> None:
@@ -162,10 +203,10 @@ class Maker:
             stray(asm, self.world, rng)
 
 
-def built(seed, wrong_at: Optional[int] = None) -> Assembler:
+def built(seed, wrong_at: Optional[int] = None, member: Member = Member()) -> Assembler:
     """The object before it is put together, with short branches where they reach."""
     for short in (True, False):
-        asm = Maker(seed, short, wrong_at).make()
+        asm = Maker(seed, short, wrong_at, member).make()
         if all_reach(asm):
             return asm
     raise TooFar

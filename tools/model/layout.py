@@ -66,6 +66,7 @@ class Layout:
         defined = {name for name, _ in listed}
         outside = {field.target for field in self.asm.fields if isinstance(field.target, str)} - defined
         listed += [(name, Symbol(name.encode(), GLOBAL, NOTYPE, 0, HOMES.get(name, UNDEFINED), 0, 0)) for name in sorted(outside)]
+        listed += [(("file", i), Symbol(b"made%d.c" % i, LOCAL, FILE, 0, ABSOLUTE, 0, 0)) for i in range(self.asm.files)]
         listed += self._more_symbols() if rng.random() < 0.2 else []
         if rng.random() < 0.3:
             rng.shuffle(listed)

@@ -27,12 +27,15 @@ from entries import entries_by_lot
 from features import FEATURES
 from further import Difference, backtraces, entry_rules, listings, merged_tables, written_objects
 from generate import made_object
+from joined import joined_object
 from mutate import mutated
 from program import Program, Run, differences, is_well_formed
 from soup import soup
 from worked import WORKED
 
-OPTIONS = ("fp", "no-unreachable", "retpoline", "rethunk", "uaccess", "all-opcodes")
+OPTIONS = ("link", "no-unreachable", "fp", "retpoline", "rethunk", "uaccess", "all-opcodes", "module")
+# Those of them that ask for no rules.
+TELLING = ("link", "no-unreachable", "all-opcodes")
 LARGE = 20_000
 # How many accepted objects are merged at most, and each how manieth object by lot is given what further.py compares.
 MERGED, FURTHER = 3, 4
@@ -42,6 +45,8 @@ NAMES_FILES = [
     b"",
     b"uaccess f0\nuaccess f1\nuaccess memset\nuaccess g\n",
     b"\n\nnoreturn memcpy\nnoreturn f0\nnoreturn f1\n#",
+    b"loose f0\nloose loose_one\nswitch switch_one\n",
+    b"switch f0\nloose f1\nloose f2\nnoreturn bare_one\nuaccess bare_two",
 ]
 FAULTY_NAMES_FILES = [
     b"noreturn out\nnoreturn\n",
@@ -54,6 +59,9 @@ FAULTY_NAMES_FILES = [
     b"noreturn g\r\n",
     b"noreturn g h",
     b"\n#\nNoreturn g",
+    b"loose f0\nloose",
+    b"switch f0 f1",
+    b"switches f0",
 ]
 
 
@@ -79,13 +87,13 @@ def worked_cases():
 
 
 def turn_of(number: int) -> tuple[list[str], Optional[bytes]]:
-    """The options of the turn, of which there is one for each combination, and a names file or none."""
-    combinations = list(itertools.product((False, True), repeat=len(OPTIONS) + 1))
-    *given, named = combinations[number % len(combinations)]
-    options = [f"--{name}" for name, there in zip(OPTIONS, given) if there]
-    turn = number // len(combinations)
-    files = FAULTY_NAMES_FILES if turn % 30 == 0 else NAMES_FILES
-    return options, files[turn % len(files) if files is NAMES_FILES else turn // 30 % len(files)] if named else None
+    """The options of the turn, and a names file or none. Every other turn asks for no rules beside those of the stack; of the others there
+    is one for each combination."""
+    asked = OPTIONS if number % 2 else TELLING
+    turn, rng = number // 2, random.Random(f"names/{number}")
+    options = [f"--{name}" for i, name in enumerate(asked) if turn >> i & 1]
+    files = FAULTY_NAMES_FILES if rng.random() < 0.03 else NAMES_FILES
+    return options, rng.choice(files) if turn >> len(asked) & 1 else None
 
 
 def object_of(name: str, real: list[str]) -> tuple[str, bytes]:
@@ -98,6 +106,8 @@ def object_of(name: str, real: list[str]) -> tuple[str, bytes]:
     for share, kind, make in ((0.2, "instructions", soup), (0.3, "entries", entries_by_lot), (0.4, "container", container_by_lot)):
         if how < share:
             return kind, make(name)
+    if how > 0.99:
+        return "joined", joined_object(name)
     made = made_object(name)
     return ("changed", mutated(made, rng)) if how < 0.5 else ("made", made)
 

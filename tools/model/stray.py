@@ -51,7 +51,7 @@ def stray_site(asm: Assembler, world, rng: random.Random, start: Label) -> None:
     length = rng.choice(ends[:3]) - start.off
     if not 0 < length <= 30:
         return
-    code = asm.section(".altinstr_stray")
+    code = asm.section(rng.choice((".altinstr_replacement", ".altinstr_stray")))
     there = asm.here(code)
     copied = asm.parts[start.sec].body[start.off : start.off + length]
     if rng.random() < 0.5:

@@ -2,6 +2,7 @@
 
 import random
 
+import by_hand
 from assemble import Assembler, Field, Label
 from bodies import INDIRECT, JCC, NOPS, PLAIN, Body, Frame
 from elf import R_32S, R_64
@@ -22,7 +23,11 @@ FEATURES = {
     "hints": ["save", "told"],
     "irets": ["sync"],
     "flags": ["flags"],
+    "runs": ["run", "run"],
+    "told_sites": ["hinted_site"],
 }
+# Those of them that have no code in them.
+LEAF_FEATURES = "stop", "fault", "sync", "flags", "site", "run", "hinted_site"
 SMAP = 308
 
 
@@ -32,7 +37,7 @@ class World:
     def __init__(self, asm: Assembler, rng: random.Random):
         self.asm, self.rng = asm, rng
         features = [name for name in FEATURES if rng.random() < 0.4]
-        self.leaves = LEAVES + [leaf for name in features for leaf in FEATURES[name] if leaf in ("stop", "fault", "sync", "flags", "site")]
+        self.leaves = LEAVES + [leaf for name in features for leaf in FEATURES[name] if leaf in LEAF_FEATURES]
         self.constructs = self.leaves + AROUND + [c for name in features for c in FEATURES[name]]
         self.ways_out = rng.sample(["thunk", "indirect", "thunk_indirect", "out", "weak", "cond", "sibling"], rng.randint(0, 3))
         self.outside = rng.sample(["out", "memcpy", "g", "__x86_put_nospec"], 2) + rng.sample(["absolute", "common"], rng.random() < 0.05) + (["__fentry__"] if rng.random() < 0.2 else [])
@@ -40,6 +45,10 @@ class World:
         self.functions: list[Label] = []
         self.stoppers: list[Label] = []
         self.weak: list[str] = []
+        # The names of functions, and with their labels those of code that returns for its caller, and of code of no function.
+        self.names: list[str] = []
+        self.returning: list[tuple[str, Label]] = []
+        self.bare: list[tuple[str, Label]] = []
         # Code of no function that any function may go to, and the frames with which it does.
         self.shared: list[tuple[Label, Frame]] = []
         self.calls_middle = rng.random() < 0.05
@@ -53,13 +62,15 @@ class World:
         return self.asm.section(".altinstr_aux") if home == "aux" else body.sec
 
     def call(self, body: Body, frame: Frame) -> None:
-        how = self.rng.choice(("out", "out", "in", "in", "weak", "indirect", "thunk"))
+        how = self.rng.choice(("out", "out", "in", "in", "weak", "indirect", "thunk", "bare", "bare"))
         at = self.asm.here(body.sec)
         relocated = self.rng.random() < 0.5
         if how == "in" and self.functions:
             self.asm.branch(body.sec, "e8", self.rng.choice(self.functions), relocated=relocated)
         elif how == "weak" and self.weak:
             self.asm.branch_out(body.sec, "e8", self.rng.choice(self.weak))
+        elif how == "bare" and self.bare:
+            by_hand.call_of_called_code(self, body)
         elif how == "indirect":
             body.emit(self.rng.choice(("ffd0", "ff5708", "ff1500000000", "3effd0")))
         elif how == "thunk":
@@ -70,13 +81,15 @@ class World:
             self.asm.branch_out(body.sec, "e8", self.rng.choice(self.outside))
         if self.rng.random() < 0.1:
             self.asm.listed(".discard.retpoline_safe", at)
+        if self.rng.random() < 0.05:
+            self.asm.listed(".discard.reachable", self.asm.here(body.sec))
 
-    def hint(self, body: Body, kind: int, sp_offset: int = 0, signal: int = 0) -> None:
-        self.hint_at(self.asm.here(body.sec), kind, sp_offset, signal)
+    def hint(self, body: Body, kind: int, sp_offset: int = 0, signal: int = 0, sp_reg: int = 5) -> None:
+        self.hint_at(self.asm.here(body.sec), kind, sp_offset, signal, sp_reg)
 
-    def hint_at(self, place: Label, kind: int, sp_offset: int = 0, signal: int = 0) -> None:
+    def hint_at(self, place: Label, kind: int, sp_offset: int = 0, signal: int = 0, sp_reg: int = 5) -> None:
         sp_offset = sp_offset if kind in (2, 3, 4) else self.rng.choice((0, 8))
-        entry = bytes(4) + sp_offset.to_bytes(2, "little") + bytes([5, kind, signal, 0, 0, 0])
+        entry = bytes(4) + sp_offset.to_bytes(2, "little") + bytes([sp_reg, kind, signal, 0, 0, 0])
         self.asm.entry(".discard.unwind_hints", entry, {0: place})
 
     def name_table(self, body: Body, at: int, table: Label) -> None:
@@ -95,14 +108,23 @@ class World:
             self.asm.parts[data].body += bytes(8)
         return begin
 
+    def go_by_caller(self, body: Body) -> None:
+        by_hand.goes_by_caller(self, body)
+
     # Sites
+
+    def run_of_nops(self, body: Body, frame: Frame) -> None:
+        by_hand.run_of_nops(self, body, frame)
+
+    def hinted_site(self, body: Body, frame: Frame) -> None:
+        by_hand.hinted_site(self, body, frame)
 
     def entry(self, start: Label, length: int, replacement: Label, size: int, feature: int = 1, flags: int = 0) -> None:
         body = bytes(8) + feature.to_bytes(2, "little") + flags.to_bytes(2, "little") + bytes([length, size])
         self.asm.entry(".altinstructions", body, {0: start, 4: replacement})
 
     def replacement(self) -> int:
-        return self.asm.section(self.rng.choice((".altinstr_replacement", ".altinstr_replacement", ".altinstr_more")))
+        return self.asm.section(self.rng.choice((".altinstr_replacement",) * 14 + (".altinstr_more",)))
 
     def switched(self, body: Body, code: str) -> None:
         """An instruction that the kernel puts in place where the processor has SMAP."""

@@ -10,7 +10,7 @@
 set -eu
 . "$(dirname "$0")/../lib/prepare.sh"
 python=${PYTHON:-python3}
-needs "made-up objects" "$python"
+needs "made-up objects" "$python" ld
 count=${1:-1000} seed=${2:-1} program=${3:-}
 kept=${KEPT:-${TMPDIR:-/tmp}/made-up-objects}
 cd "$root"
