@@ -2,7 +2,9 @@
 //! user of it.
 #![tactic(auto)]
 
+mod arguments;
 pub mod definition;
+mod making;
 mod reading;
 mod texts;
 

@@ -1,6 +1,6 @@
 //! What a whole command line asks for.
 
-ghost use Rattle.std.specs.Prelude.{◌≡◌, Ok, Option, Some, codes, map, string_bytes, option_and_then, option_map, IfOk, IfErr, ℕ, Bool};
+ghost use Rattle.std.specs.Prelude.{◌≡◌, Ok, Option, Some, codes, map, string_bytes, option_and_then, option_map, IfOk, IfErr, ℕ};
 ghost use Rattle.clap.specs.Words.{first_of, subcommand_rows_of};
 ghost use Rattle.cli_words.specs.declared.options.CheckOptions.{CheckOptions};
 ghost use Rattle.cli_words.specs.declared.options.EntryRules.{EntryRules};
@@ -8,8 +8,9 @@ ghost use Rattle.x86_map.specs.declared.map.Map.{Map as MapKind};
 ghost use Rattle.cli_words.specs.Grammar.{Command as Meant, cfa, cfi, check, command_in, demo, dump, entry, explain, find, IsFaultOf, list, meaning, merge, show, sites, unwind};
 ghost use Rattle.cli_words.specs.Numbers.{address_of, number_of};
 ghost use Rattle.cli_words.specs.Words.{Word};
-ghost use Rattle.cli_matches.specs.Matches.{Says, SaysCheck, SaysEntry, SaysPair, SaysRewriting, SaysShow, SaysSwitch, is_asked, request_of, rows_in};
+ghost use Rattle.cli_matches.specs.Matches.{Says, SaysCheck, SaysEntry, SaysPair, SaysRewriting, SaysShow, request_of, rows_in};
 
+use crate::arguments::{is_given, map_of, pair_of, text_of};
 use crate::definition::command_line;
 use clap::ArgMatches;
 use clap::error::ErrorKind;
@@ -18,34 +19,6 @@ use cli_words::{
 };
 use ot_base::Options;
 use std::alloc::{AllocError, Global};
-
-/// The text of a name, where the matches have one.
-fn text_of(alloc: Global, found: &ArgMatches<'_>, name: &str) -> Result<Option<String>, AllocError>
-    ensures { IfOk result (λ text. option_map string_bytes text ≡ first_of name.now (rows_in found.now)) }
-{
-    match found.get_str(name) {
-        Some(text) => Ok(Some(String::from_str(alloc, text)?)),
-        None => Ok(None),
-    }
-}
-
-/// Whether an option is given that has no value.
-fn is_given(found: &ArgMatches<'_>, name: &str) -> bool
-    ensures { (given : Bool) → SaysSwitch (rows_in found.now) name.now given → result ≡ given }
-{
-    found.get_flag(name)
-}
-
-/// The opcode map that the options ask for.
-fn map_of(found: &ArgMatches<'_>) -> Map
-    ensures { (map : MapKind) → SaysSwitch (rows_in found.now) (codes "all-opcodes") (is_asked map) → result ≡ map }
-{
-    if is_given(found, "all-opcodes") {
-        Map::Whole
-    } else {
-        Map::Base
-    }
-}
 
 /// The rules that the options of `check` ask for.
 fn rules_of(found: &ArgMatches<'_>) -> Options
@@ -250,24 +223,6 @@ fn cfa_of(alloc: Global, found: &ArgMatches<'_>) -> Result<Option<Command>, Allo
     match text_of(alloc, found, "FILE")? {
         Some(file) => Ok(Some(Command::Cfa { file })),
         None => Ok(None),
-    }
-}
-
-/// Two texts, where the matches have both.
-fn pair_of(
-    alloc: Global,
-    found: &ArgMatches<'_>,
-    first: &str,
-    second: &str,
-) -> Result<Option<(String, String)>, AllocError>
-    ensures { IfOk result (λ pair. (one other : Word) → SaysPair (rows_in found.now) first.now second.now one other
-        → option_map {U = Word × Word} (λ pair. (string_bytes pair.0, string_bytes pair.1)) pair ≡ Some (one, other)) }
-{
-    let first = text_of(alloc, found, first)?;
-    let second = text_of(alloc, found, second)?;
-    match (first, second) {
-        (Some(first), Some(second)) => Ok(Some((first, second))),
-        _ => Ok(None),
     }
 }
 

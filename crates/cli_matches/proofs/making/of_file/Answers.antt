@@ -1,4 +1,4 @@
-use Rattle.cli_matches.proofs.definition.of_file.Goals as goal
+use Rattle.cli_matches.proofs.making.of_file.Goals as goal
 
 pub returns : goal.returns
 returns c = c.with_place.ensures _ c.command-command.ensures

@@ -1,7 +1,7 @@
 use Rattle.std.proofs.Common.{true, false, ◌∙◌}
 use Rattle.clap.specs.Words.{found_of}
 use Rattle.clap.proofs.WalkLemmas.{one_text-rows}
-use Rattle.cli_matches.proofs.reading.is_given.Goals as goal
+use Rattle.cli_matches.proofs.arguments.is_given.Goals as goal
 
 pub returns : goal.returns
 returns c = elim [

@@ -2,7 +2,7 @@ use Rattle.std.proofs.Common.{◌≡◌, ◌∙◌, ap, ap₂, true}
 use Rattle.std.proofs.lemmas.Result.{IfOk-at_ok, IfOk-weaker}
 use Rattle.clap.specs.Words.{App, app_of, with_subcommand}
 use Rattle.clap.proofs.SimpleLemmas.{plain_fields}
-use Rattle.cli_matches.proofs.definition.with_command.Goals as goal
+use Rattle.cli_matches.proofs.making.with_command.Goals as goal
 
 pub returns-in-Ok-program : goal.returns-in-Ok-program
 returns-in-Ok-program c = λ app added plain program_is command_is.

@@ -1,7 +1,7 @@
 use Rattle.std.proofs.Common.{Some, ap, sym, ◌∙◌, option_map}
 use Rattle.clap.specs.Words.{found_of}
 use Rattle.clap.proofs.WalkLemmas.{first_value-rows}
-use Rattle.cli_matches.proofs.reading.text_of.Goals as goal
+use Rattle.cli_matches.proofs.arguments.text_of.Goals as goal
 
 pub returns-in-None : goal.returns-in-None
 returns-in-None c = ap (option_map (λ text. text.now)) (sym c.in-None.is) ∙ c.get_str.ensures ∙ first_value-rows (found_of c.args.found.now) c.args.name.now
