@@ -3,14 +3,12 @@ use Rattle.std.proofs.Common.{◌≡◌, ℕ, zero, suc, ◌+◌, ◌-◌, ◌<�
 use Rattle.std.proofs.lemmas.List.{length-take-le, length-drop, get_or-take, get_or-drop, take_all}
 use Rattle.std.proofs.lemmas.Grind.{get_or_default_zero}
 use Rattle.std.proofs.lemmas.List.Elements.{Contains-append_left, Contains-append_right, Contains-append_cases}
-use Rattle.operation_defs.specs.declared.op.Op.{Op}
 use Rattle.machine_defs.specs.declared.flow.Edge.{Edge}
 use Rattle.machine_defs.specs.declared.flow.EdgeKind.{EdgeKind}
 use Rattle.machine_defs.specs.declared.flow.EdgeKind.TheVariants.{Next, Taken, Fixup, Table, Sibling}
 use Rattle.state_defs.specs.declared.state.State.{State}
-use Rattle.state_defs.specs.Move.{move}
 use Rattle.machine_defs.specs.Program.{Program, IsPoint}
-use Rattle.machine_defs.specs.Kept.{Brings, brought_along, edges_of, is_free, kept_or, moved}
+use Rattle.machine_defs.specs.Kept.{Brings, brought_along, edges_of, is_free, kept_or, moved, moved_at}
 use Rattle.unwinding_law.proofs.Lists.{cases, here, nowhere}
 use Rattle.unwinding_law.proofs.KeptStates.{brings_along, brings_edge}
 use Rattle.kept_states.specs.declared.done.Batch.{Batch}
@@ -130,39 +128,39 @@ one : (s u : State) → Contains (s ∷ []) u → u ≡ s
 one s u c = elim (cases s [] u c) [ inl e ↦ sym e | inr n ↦ nowhere u n ]
 
 -- what comes along an edge where the operation leaves the state as it is
-brings_same : (s t u : State) (ops op : Op) (kind : EdgeKind) → move s op ≡ Ok s → Contains (brought_along t ops kind) u → Contains (brought_along s op kind) s
-brings_same s t u ops op Next m c = rw m (here s [])
-brings_same s t u ops op Taken m c = rw m (here s [])
-brings_same s t u ops op Fixup m c = here s []
-brings_same s t u ops op Table m c = rw m (here s [])
-brings_same s t u ops op Sibling m c = nowhere u c
+brings_same : (s t u : State) (before after : Result State ℕ) (kind : EdgeKind) → after ≡ Ok s → Contains (brought_along t before kind) u → Contains (brought_along s after kind) s
+brings_same s t u before after Next m c = rw m (here s [])
+brings_same s t u before after Taken m c = rw m (here s [])
+brings_same s t u before after Fixup m c = here s []
+brings_same s t u before after Table m c = rw m (here s [])
+brings_same s t u before after Sibling m c = nowhere u c
 
-same_along : (s u : State) (op : Op) (kind : EdgeKind) → move s op ≡ Ok s → Contains (brought_along s op kind) u → u ≡ s
-same_along s u op Next m c = one s u (subst (λ (r : Result State ℕ). Contains (moved r) u) m c)
-same_along s u op Taken m c = one s u (subst (λ (r : Result State ℕ). Contains (moved r) u) m c)
-same_along s u op Fixup m c = one s u c
-same_along s u op Table m c = one s u (subst (λ (r : Result State ℕ). Contains (moved r) u) m c)
-same_along s u op Sibling m c = nowhere u c
+same_along : (s u : State) (after : Result State ℕ) (kind : EdgeKind) → after ≡ Ok s → Contains (brought_along s after kind) u → u ≡ s
+same_along s u after Next m c = one s u (subst (λ (r : Result State ℕ). Contains (moved r) u) m c)
+same_along s u after Taken m c = one s u (subst (λ (r : Result State ℕ). Contains (moved r) u) m c)
+same_along s u after Fixup m c = one s u c
+same_along s u after Table m c = one s u (subst (λ (r : Result State ℕ). Contains (moved r) u) m c)
+same_along s u after Sibling m c = nowhere u c
 
 -- a point with the same edges gives something to each point to which another brings something
-gives_too : (p : Program) (a first q : ℕ) (s t u : State) → edges_of p a ≡ edges_of p first → move s (p.insn first).op ≡ Ok s → p.unchecked q ≡ false → is_free (p.hint q) ≡ true → Brings p a t q u → Gives p first s q s
+gives_too : (p : Program) (a first q : ℕ) (s t u : State) → edges_of p a ≡ edges_of p first → moved_at p first s ≡ Ok s → p.unchecked q ≡ false → is_free (p.hint q) ≡ true → Brings p a t q u → Gives p first s q s
 gives_too p a first q s t u same moves checked free brings =
     let r = brings_edge p a q t u brings in
     let e : Edge = r.0 in
     let listed : Contains (edges_of p first) e = subst (λ (es : List Edge). Contains es e) same r.1 in
-    let along : Brings p first s e.to s = brings_along p first s e s listed (brings_same s t u (p.insn a).op (p.insn first).op e.kind moves r.3) in
+    let along : Brings p first s e.to s = brings_along p first s e s listed (brings_same s t u (moved_at p a t) (moved_at p first s) e.kind moves r.3) in
     (checked, inl (free, subst (λ (x : ℕ). Brings p first s x s) r.2 along))
 
 -- what a point brings is brought in vain where one with the same edges has given
-pub vain_after : (p : Program) (levels : LevelStates) (i a first : ℕ) (s : State) → HaveGivenAll p levels → Contains levels.done first → at levels.kept first ≡ Some s → move s (p.insn first).op ≡ Ok s → edges_of p a ≡ edges_of p first → IsBroughtInVain p levels i a
+pub vain_after : (p : Program) (levels : LevelStates) (i a first : ℕ) (s : State) → HaveGivenAll p levels → Contains levels.done first → at levels.kept first ≡ Some s → moved_at p first s ≡ Ok s → edges_of p a ≡ edges_of p first → IsBroughtInVain p levels i a
 vain_after p levels i a first s given done has moves same q t u pq kept checked free brings = inl (given.aside first q s s done pq has (gives_too p a first q s t u same moves checked free brings))
 
 -- and where one in front with the same state gave before
-pub vain_beside : (p : Program) (levels : LevelStates) (i a first : ℕ) → Contains (take i levels.front) first → at levels.kept first ≡ at levels.kept a → ((s : State) → at levels.kept a ≡ Some s → (move s (p.insn first).op ≡ Ok s) × (move s (p.insn a).op ≡ Ok s)) → edges_of p a ≡ edges_of p first → IsBroughtInVain p levels i a
+pub vain_beside : (p : Program) (levels : LevelStates) (i a first : ℕ) → Contains (take i levels.front) first → at levels.kept first ≡ at levels.kept a → ((s : State) → at levels.kept a ≡ Some s → (moved_at p first s ≡ Ok s) × (moved_at p a s ≡ Ok s)) → edges_of p a ≡ edges_of p first → IsBroughtInVain p levels i a
 vain_beside p levels i a first before alike moves same q t u pq kept checked free brings =
     let m = moves t kept in
     let r = brings_edge p a q t u brings in
-    let e : u ≡ t = same_along t u (p.insn a).op (r.0).kind m.1 r.3 in
+    let e : u ≡ t = same_along t u (moved_at p a t) (r.0).kind m.1 r.3 in
     inr (first, t, before, alike ∙ kept, subst (λ (x : State). Gives p first t q x) (sym e) (gives_too p a first q t t u same m.0 checked free brings))
 
 is_settled_by : (a b : Offers) (q : ℕ) → b.settled ≡ a.settled → is_settled a q ≡ false → is_settled b q ≡ false

@@ -1,13 +1,12 @@
 -- What one more point in front gives.
-use Rattle.std.proofs.Common.{◌≡◌, ◌≢◌, ◌↔◌, ℕ, ◌+◌, ◌<◌, Bool, true, false, ◌||◌, List, [], ◌∷◌, ◌⊎◌, inl, inr, Option, Some, None, Contains, if◌then◌else◌, length, take, get_or, set, refl, ap, sym, ◌∙◌, subst, arith, length-set}
+use Rattle.std.proofs.Common.{◌≡◌, ◌≢◌, ◌↔◌, ℕ, ◌+◌, ◌<◌, Bool, true, false, ◌||◌, List, [], ◌∷◌, ◌⊎◌, inl, inr, Option, Some, None, Contains, if◌then◌else◌, length, take, get_or, set, refl, ap, sym, ◌∙◌, subst, arith, length-set, Result}
 use Rattle.std.proofs.lemmas.List.{take_more}
 use Rattle.std.proofs.lemmas.List.Elements.{Contains-append_left, Contains-append_right, Contains-append_cases}
-use Rattle.operation_defs.specs.declared.op.Op.{Op}
 use Rattle.machine_defs.specs.declared.flow.Edge.{Edge}
 use Rattle.state_defs.specs.declared.state.State.{State}
 use Rattle.state_defs.specs.declared.state.HintState.TheVariants.{Restore}
 use Rattle.machine_defs.specs.Program.{Program, IsPoint}
-use Rattle.machine_defs.specs.Kept.{Brings, brought_along, edges_of, is_free}
+use Rattle.machine_defs.specs.Kept.{Brings, brought_along, edges_of, is_free, moved_at}
 use Rattle.unwinding_law.proofs.Lists.{here, there, cases, nowhere}
 use Rattle.unwinding_law.proofs.KeptStates.{brings_along, brings_edge}
 use Rattle.program_graph.specs.Tells.{Means}
@@ -89,31 +88,31 @@ module _ (kept : List (Option State)) (n : ℕ) where
   length-offers (t ∷ gifts) next = length-offers gifts (offered kept next n t) ∙ length-set next.states n (after_offer (at kept n) (at next.states n) t)
 
 -- what comes along some edges, and to some RESTOREs
-abbrev pub FromEdges : Program → State → Op → List Edge → ℕ → State → Type 0
-FromEdges p s op edges q u = (e : Edge) × Contains edges e × (e.to ≡ q) × Contains (given_along p s op e) u
+abbrev pub FromEdges : Program → State → Result State ℕ → List Edge → ℕ → State → Type 0
+FromEdges p s after edges q u = (e : Edge) × Contains edges e × (e.to ≡ q) × Contains (given_along p s after e) u
 
 abbrev pub FromRestores : Program → State → List ℕ → ℕ → State → Type 0
 FromRestores p s restores q u = Contains restores q × Contains (given_to_restore p s q) u
 
-abbrev pub WithEdges : (ℕ → State → Type 0) → Program → State → Op → List Edge → ℕ → State → Type 0
-WithEdges A p s op edges q u = A q u ⊎ FromEdges p s op edges q u
+abbrev pub WithEdges : (ℕ → State → Type 0) → Program → State → Result State ℕ → List Edge → ℕ → State → Type 0
+WithEdges A p s after edges q u = A q u ⊎ FromEdges p s after edges q u
 
 abbrev pub WithRestores : (ℕ → State → Type 0) → Program → State → List ℕ → ℕ → State → Type 0
 WithRestores A p s restores q u = A q u ⊎ FromRestores p s restores q u
 
 module _ (kept : List (Option State)) (p : Program) (s : State) (A : ℕ → State → Type 0) where
-  pub no_edge : (next : Offers) (op : Op) (edges : List Edge) → AreLeast kept next A → AreLeast kept next (WithEdges A p s op (take 0 edges))
-  no_edge next op edges h = least_alike kept next A (WithEdges A p s op (take 0 edges)) (λ q u l. (λ k. inl k, λ k. elim k [ inl a ↦ a | inr b ↦ nowhere b.0 b.1 ])) h
+  pub no_edge : (next : Offers) (after : Result State ℕ) (edges : List Edge) → AreLeast kept next A → AreLeast kept next (WithEdges A p s after (take 0 edges))
+  no_edge next after edges h = least_alike kept next A (WithEdges A p s after (take 0 edges)) (λ q u l. (λ k. inl k, λ k. elim k [ inl a ↦ a | inr b ↦ nowhere b.0 b.1 ])) h
 
-  pub edge_more : (next : Offers) (op : Op) (edges : List Edge) (j : ℕ) (d e : Edge) → j < length edges → e ≡ get_or edges j d → e.to < length next.states
-      → AreLeast kept next (WithEdges A p s op (take j edges)) → AreLeast kept (offer_all kept next e.to (given_along p s op e)) (WithEdges A p s op (take (j + 1) edges))
-  edge_more next op edges j d e l is inside h = offers kept e.to (given_along p s op e) next (WithEdges A p s op (take j edges)) (WithEdges A p s op (take (j + 1) edges)) inside h (λ q u k. (λ x. to q u x, λ x. from q u x))
+  pub edge_more : (next : Offers) (after : Result State ℕ) (edges : List Edge) (j : ℕ) (d e : Edge) → j < length edges → e ≡ get_or edges j d → e.to < length next.states
+      → AreLeast kept next (WithEdges A p s after (take j edges)) → AreLeast kept (offer_all kept next e.to (given_along p s after e)) (WithEdges A p s after (take (j + 1) edges))
+  edge_more next after edges j d e l is inside h = offers kept e.to (given_along p s after e) next (WithEdges A p s after (take j edges)) (WithEdges A p s after (take (j + 1) edges)) inside h (λ q u k. (λ x. to q u x, λ x. from q u x))
     where
-      to : (q : ℕ) (u : State) → WithEdges A p s op (take (j + 1) edges) q u → WithEdges A p s op (take j edges) q u ⊎ ((q ≡ e.to) × Contains (given_along p s op e) u)
+      to : (q : ℕ) (u : State) → WithEdges A p s after (take (j + 1) edges) q u → WithEdges A p s after (take j edges) q u ⊎ ((q ≡ e.to) × Contains (given_along p s after e) u)
       to q u (inl a) = inl (inl a)
-      to q u (inr (f, c, t, g)) = elim (in_more edges j d f l c) [ inl o ↦ inl (inr (f, o, t, g)) | inr same ↦ (let k : e ≡ f = is ∙ same in inr (sym t ∙ ap (λ (x : Edge). x.to) (sym k), subst (λ (x : Edge). Contains (given_along p s op x) u) (sym k) g)) ]
+      to q u (inr (f, c, t, g)) = elim (in_more edges j d f l c) [ inl o ↦ inl (inr (f, o, t, g)) | inr same ↦ (let k : e ≡ f = is ∙ same in inr (sym t ∙ ap (λ (x : Edge). x.to) (sym k), subst (λ (x : Edge). Contains (given_along p s after x) u) (sym k) g)) ]
 
-      from : (q : ℕ) (u : State) → WithEdges A p s op (take j edges) q u ⊎ ((q ≡ e.to) × Contains (given_along p s op e) u) → WithEdges A p s op (take (j + 1) edges) q u
+      from : (q : ℕ) (u : State) → WithEdges A p s after (take j edges) q u ⊎ ((q ≡ e.to) × Contains (given_along p s after e) u) → WithEdges A p s after (take (j + 1) edges) q u
       from q u (inl (inl a)) = inl a
       from q u (inl (inr (f, c, t, g))) = inr (f, more_old edges j d f l c, t, g)
       from q u (inr (t, g)) = inr (e, subst (λ (x : Edge). Contains (take (j + 1) edges) x) (sym is) (more_new edges j d l), sym t, g)
@@ -136,10 +135,10 @@ module _ (kept : List (Option State)) (p : Program) (s : State) (A : ℕ → Sta
 
 -- what is given is what comes along the edges of the point and to the RESTOREs that mean it
 module _ (p : Program) (a : ℕ) (s : State) where
-  along : (e : Edge) (u : State) → Contains (given_along p s (p.insn a).op e) u → (p.unchecked e.to ≡ false) × (is_free (p.hint e.to) ≡ true) × Contains (brought_along s (p.insn a).op e.kind) u
+  along : (e : Edge) (u : State) → Contains (given_along p s (moved_at p a s) e) u → (p.unchecked e.to ≡ false) × (is_free (p.hint e.to) ≡ true) × Contains (brought_along s (moved_at p a s) e.kind) u
   along e u c = go (p.unchecked e.to) (is_free (p.hint e.to)) refl refl c
     where
-      go : (b f : Bool) → p.unchecked e.to ≡ b → is_free (p.hint e.to) ≡ f → Contains (if b then [] else (if f then brought_along s (p.insn a).op e.kind else [])) u → (p.unchecked e.to ≡ false) × (is_free (p.hint e.to) ≡ true) × Contains (brought_along s (p.insn a).op e.kind) u
+      go : (b f : Bool) → p.unchecked e.to ≡ b → is_free (p.hint e.to) ≡ f → Contains (if b then [] else (if f then brought_along s (moved_at p a s) e.kind else [])) u → (p.unchecked e.to ≡ false) × (is_free (p.hint e.to) ≡ true) × Contains (brought_along s (moved_at p a s) e.kind) u
       go true f x y c = nowhere u c
       go false true x y c = (x, y, c)
       go false false x y c = nowhere u c
@@ -151,10 +150,10 @@ module _ (p : Program) (a : ℕ) (s : State) where
       go true x c = nowhere u c
       go false x c = (x, elim (cases s [] u c) [ inl e ↦ sym e | inr n ↦ nowhere u n ])
 
-  pub gives_all : (restores : List ℕ) → ((r : ℕ) → Contains restores r ↔ Means p a r) → (q : ℕ) (u : State) → IsPoint p q → Gives p a s q u ↔ (FromEdges p s (p.insn a).op (edges_of p a) q u ⊎ FromRestores p s restores q u)
+  pub gives_all : (restores : List ℕ) → ((r : ℕ) → Contains restores r ↔ Means p a r) → (q : ℕ) (u : State) → IsPoint p q → Gives p a s q u ↔ (FromEdges p s (moved_at p a s) (edges_of p a) q u ⊎ FromRestores p s restores q u)
   gives_all restores mean q u pq = (λ g. to g.0 g.1, λ k. from k)
     where
-      to : p.unchecked q ≡ false → ((is_free (p.hint q) ≡ true) × Brings p a s q u) ⊎ ((p.hint q ≡ Some Restore) × (p.save_of q ≡ Some a) × (u ≡ s)) → FromEdges p s (p.insn a).op (edges_of p a) q u ⊎ FromRestores p s restores q u
+      to : p.unchecked q ≡ false → ((is_free (p.hint q) ≡ true) × Brings p a s q u) ⊎ ((p.hint q ≡ Some Restore) × (p.save_of q ≡ Some a) × (u ≡ s)) → FromEdges p s (moved_at p a s) (edges_of p a) q u ⊎ FromRestores p s restores q u
       to checked (inl (free, brings)) =
           let r = brings_edge p a q s u brings in
           let back : (x : ℕ) → x ≡ q → p.unchecked x ≡ false = λ x e. subst (λ (y : ℕ). p.unchecked y ≡ false) (sym e) checked in
@@ -162,7 +161,7 @@ module _ (p : Program) (a : ℕ) (s : State) where
           inl (r.0, r.1, r.2, rw (back (r.0).to r.2, too) r.3)
       to checked (inr (h, v, e)) = inr ((mean q).1 (record { point = pq; hint = h; save = v }), rw checked (subst (λ (x : State). Contains (s ∷ []) x) (sym e) (here s [])))
 
-      from : FromEdges p s (p.insn a).op (edges_of p a) q u ⊎ FromRestores p s restores q u → Gives p a s q u
+      from : FromEdges p s (moved_at p a s) (edges_of p a) q u ⊎ FromRestores p s restores q u → Gives p a s q u
       from (inl (e, c, t, g)) =
           let k = along e u g in
           subst (λ (x : ℕ). Gives p a s x u) t (k.0, inl (k.1, brings_along p a s e u c k.2))
@@ -176,21 +175,21 @@ module _ (p : Program) (old : LevelStates) (next : Offers) (i a : ℕ) (s : Stat
   abbrev So : ℕ → State → Type 0
   So = IsGiven p (at old.kept) (take i old.front)
 
-  aside : (q : ℕ) (u : State) → q < length old.kept → FromEdges p s (p.insn a).op (edges_of p a) q u → IsLeftAside old q ⊎ So q u
+  aside : (q : ℕ) (u : State) → q < length old.kept → FromEdges p s (moved_at p a s) (edges_of p a) q u → IsLeftAside old q ⊎ So q u
   aside q u l (e, c, t, g) =
       let k = along p a s e u g in
       vain q s u (omega (arith, l, count)) has (subst (λ (x : ℕ). p.unchecked x ≡ false) t k.0) (subst (λ (x : ℕ). is_free (p.hint x) ≡ true) t k.1) (subst (λ (x : ℕ). Brings p a s x u) t (brings_along p a s e u c k.2))
 
-  pub in_vain : next.settled ≡ old.next.settled → (next.met ≡ false → old.next.met ≡ false) → AreLeast old.kept next (WithEdges So p s (p.insn a).op []) → AreLeast old.kept next (WithEdges So p s (p.insn a).op (edges_of p a))
+  pub in_vain : next.settled ≡ old.next.settled → (next.met ≡ false → old.next.met ≡ false) → AreLeast old.kept next (WithEdges So p s (moved_at p a s) []) → AreLeast old.kept next (WithEdges So p s (moved_at p a s) (edges_of p a))
   in_vain settled met h = record { least = least; unmet = unmet }
     where
-      same : (q : ℕ) → q < length old.kept → at old.kept q ≡ None → (u : State) → WithEdges So p s (p.insn a).op [] q u ↔ WithEdges So p s (p.insn a).op (edges_of p a) q u
+      same : (q : ℕ) → q < length old.kept → at old.kept q ≡ None → (u : State) → WithEdges So p s (moved_at p a s) [] q u ↔ WithEdges So p s (moved_at p a s) (edges_of p a) q u
       same q l vacant u = (λ k. elim k [ inl x ↦ inl x | inr y ↦ nowhere y.0 y.1 ], λ k. elim k [ inl x ↦ inl x | inr y ↦ elim (aside q u l y) [ inl r ↦ not_none (at old.kept q) vacant r.0 | inr g ↦ inl g ] ])
 
-      least : (q : ℕ) → q < length old.kept → at old.kept q ≡ None → IsLeast (WithEdges So p s (p.insn a).op (edges_of p a) q) (at next.states q)
-      least q l vacant = least_same (WithEdges So p s (p.insn a).op [] q) (WithEdges So p s (p.insn a).op (edges_of p a) q) (at next.states q) (same q l vacant) (h.least q l vacant)
+      least : (q : ℕ) → q < length old.kept → at old.kept q ≡ None → IsLeast (WithEdges So p s (moved_at p a s) (edges_of p a) q) (at next.states q)
+      least q l vacant = least_same (WithEdges So p s (moved_at p a s) [] q) (WithEdges So p s (moved_at p a s) (edges_of p a) q) (at next.states q) (same q l vacant) (h.least q l vacant)
 
-      unmet : next.met ≡ false → (q : ℕ) (u : State) → q < length old.kept → WithEdges So p s (p.insn a).op (edges_of p a) q u → is_settled next q ≡ false
+      unmet : next.met ≡ false → (q : ℕ) (u : State) → q < length old.kept → WithEdges So p s (moved_at p a s) (edges_of p a) q u → is_settled next q ≡ false
       unmet e q u l (inl x) = h.unmet e q u l (inl x)
       unmet e q u l (inr y) = elim (aside q u l y) [
         | inl r ↦ subst (λ (b : List Bool). is_settled (record { states = []; settled = b; met = false }) q ≡ false) (sym settled) (r.1 (met e))
@@ -199,8 +198,8 @@ module _ (p : Program) (old : LevelStates) (next : Offers) (i a : ℕ) (s : Stat
 
 module _ (p : Program) (kept : List (Option State)) (front : List ℕ) (i : ℕ) (a : ℕ) (l : i < length front) (is : a ≡ get_or front i 0) (count : p.count ≡ length kept) where
   pub given_more : (next : Offers) (s : State) (restores : List ℕ) → at kept a ≡ Some s → ((r : ℕ) → Contains restores r ↔ Means p a r)
-      → AreLeast kept next (WithRestores (WithEdges (IsGiven p (at kept) (take i front)) p s (p.insn a).op (edges_of p a)) p s restores) → AreLeast kept next (IsGiven p (at kept) (take (i + 1) front))
-  given_more next s restores has mean h = least_alike kept next (WithRestores (WithEdges (IsGiven p (at kept) (take i front)) p s (p.insn a).op (edges_of p a)) p s restores) (IsGiven p (at kept) (take (i + 1) front)) (λ q u k. (λ x. to q u (point q k) x, λ x. from q u (point q k) x)) h
+      → AreLeast kept next (WithRestores (WithEdges (IsGiven p (at kept) (take i front)) p s (moved_at p a s) (edges_of p a)) p s restores) → AreLeast kept next (IsGiven p (at kept) (take (i + 1) front))
+  given_more next s restores has mean h = least_alike kept next (WithRestores (WithEdges (IsGiven p (at kept) (take i front)) p s (moved_at p a s) (edges_of p a)) p s restores) (IsGiven p (at kept) (take (i + 1) front)) (λ q u k. (λ x. to q u (point q k) x, λ x. from q u (point q k) x)) h
     where
       point : (q : ℕ) → q < length kept → IsPoint p q
       point q k = omega (arith, k, count)
@@ -208,17 +207,17 @@ module _ (p : Program) (kept : List (Option State)) (front : List ℕ) (i : ℕ)
       in_front : Contains (take (i + 1) front) a
       in_front = subst (λ (x : ℕ). Contains (take (i + 1) front) x) (sym is) (more_new front i 0 l)
 
-      to : (q : ℕ) (u : State) → IsPoint p q → WithRestores (WithEdges (IsGiven p (at kept) (take i front)) p s (p.insn a).op (edges_of p a)) p s restores q u → IsGiven p (at kept) (take (i + 1) front) q u
+      to : (q : ℕ) (u : State) → IsPoint p q → WithRestores (WithEdges (IsGiven p (at kept) (take i front)) p s (moved_at p a s) (edges_of p a)) p s restores q u → IsGiven p (at kept) (take (i + 1) front) q u
       to q u pq (inl (inl (b, t, c, e, g))) = (b, t, more_old front i 0 b l c, e, g)
       to q u pq (inl (inr g)) = (a, s, in_front, has, (gives_all p a s restores mean q u pq).1 (inl g))
       to q u pq (inr g) = (a, s, in_front, has, (gives_all p a s restores mean q u pq).1 (inr g))
 
-      new : (q : ℕ) (u : State) → IsPoint p q → (b : ℕ) → a ≡ b → (t : State) → at kept b ≡ Some t → Gives p b t q u → WithRestores (WithEdges (IsGiven p (at kept) (take i front)) p s (p.insn a).op (edges_of p a)) p s restores q u
+      new : (q : ℕ) (u : State) → IsPoint p q → (b : ℕ) → a ≡ b → (t : State) → at kept b ≡ Some t → Gives p b t q u → WithRestores (WithEdges (IsGiven p (at kept) (take i front)) p s (moved_at p a s) (edges_of p a)) p s restores q u
       new q u pq b same t e g =
           let k : at kept b ≡ Some s = subst (λ (x : ℕ). at kept x ≡ Some s) same has in
           let f : t ≡ s = cc in
           let h : Gives p a s q u = subst (λ (x : ℕ). Gives p x s q u) (sym same) (subst (λ (x : State). Gives p b x q u) f g) in
           elim ((gives_all p a s restores mean q u pq).0 h) [ inl x ↦ inl (inr x) | inr x ↦ inr x ]
 
-      from : (q : ℕ) (u : State) → IsPoint p q → IsGiven p (at kept) (take (i + 1) front) q u → WithRestores (WithEdges (IsGiven p (at kept) (take i front)) p s (p.insn a).op (edges_of p a)) p s restores q u
+      from : (q : ℕ) (u : State) → IsPoint p q → IsGiven p (at kept) (take (i + 1) front) q u → WithRestores (WithEdges (IsGiven p (at kept) (take i front)) p s (moved_at p a s) (edges_of p a)) p s restores q u
       from q u pq (b, t, c, e, g) = elim (in_more front i 0 b l c) [ inl d ↦ inl (inl (b, t, d, e, g)) | inr same ↦ new q u pq b (is ∙ same) t e g ]

@@ -1,5 +1,6 @@
 -- A neutral operation leaves each state as it is whose numbers are near.
-use Rattle.std.proofs.Common.{◌≡◌, Bool, true, Option, [], ◌∷◌, Ok, refl}
+use Rattle.machine_defs.specs.Program.{Program}
+use Rattle.std.proofs.Common.{◌≡◌, Bool, true, Option, [], ◌∷◌, Ok, refl, Result, subst, sym, ap, false, ℕ}
 use Rattle.std.specs.Prelude.{ℤ}
 use Rattle.operation_defs.specs.declared.op.Op.{Op}
 use Rattle.operation_defs.specs.declared.op.Op.TheVariants.{Push, PushBp, Pop, PopBp, Popf, AddSp, AndSp, LeaSpBp, LeaBpSp, LeaBpRoom, SubSp, SpReg, StoreBp, LoadBp, Leave, SpOther, BpOther, Hop, IretNext}
@@ -8,7 +9,7 @@ use Rattle.state_defs.specs.declared.state.BpHome.{BpHome}
 use Rattle.state_defs.specs.declared.state.State.{State}
 use Rattle.state_defs.specs.declared.state.State.TheVariants.{Live, Ended, Regs}
 use Rattle.state_defs.specs.Move.{has_near_numbers, move, move_live, move_regs, to}
-use Rattle.machine_defs.specs.Kept.{moved}
+use Rattle.machine_defs.specs.Kept.{moved, moved_at, loosened}
 use Rattle.kept_states.specs.Neutral.{is_neutral}
 
 to_near : (s : State) → has_near_numbers s ≡ true → to s ≡ Ok s
@@ -63,5 +64,16 @@ move_stays (Live depth fp home) op h e = live_stays depth fp home op h e
 move_stays (Ended kind) op h e = refl
 move_stays (Regs full depth) op h e = regs_stay full depth op h e
 
-pub moved_stays : (s : State) (op : Op) → is_neutral op ≡ true → has_near_numbers s ≡ true → moved (move s op) ≡ s ∷ []
-moved_stays s op h e = let m : move s op ≡ Ok s = move_stays s op h e in rw m refl
+-- a move that isn't refused is the same in loose code
+pub loosened_ok : (loose : Bool) (r : Result State ℕ) (s : State) → r ≡ Ok s → loosened loose r ≡ Ok s
+loosened_ok false r s e = e
+loosened_ok true r s e = subst (λ (x : Result State ℕ). loosened true x ≡ Ok s) (sym e) refl
+
+pub moved_at_ok : (p : Program) (q : ℕ) (s t : State) → move s (p.insn q).op ≡ Ok t → moved_at p q s ≡ Ok t
+moved_at_ok p q s t e = loosened_ok (p.loose q) (move s (p.insn q).op) t e
+
+pub stays_at : (p : Program) (q : ℕ) (s : State) → is_neutral (p.insn q).op ≡ true → has_near_numbers s ≡ true → moved_at p q s ≡ Ok s
+stays_at p q s h e = moved_at_ok p q s s (move_stays s (p.insn q).op h e)
+
+pub moved_stays : (p : Program) (q : ℕ) (s : State) → is_neutral (p.insn q).op ≡ true → has_near_numbers s ≡ true → moved (moved_at p q s) ≡ s ∷ []
+moved_stays p q s h e = ap moved (stays_at p q s h e)

@@ -1,6 +1,6 @@
 -- How states pass points, told of one after another.
 use Rattle.std.specs.Prelude.{IsTrue}
-use Rattle.std.proofs.Common.{◌≡◌, ◌≢◌, ℕ, ◌+◌, ◌^◌, ◌<◌, ◌&&◌, ◌==◌, Bool, true, false, not, Option, inl, inr, All, Contains, List, [], ◌∷◌, None, if◌then◌else◌, length, get_or, set, refl, sym, subst, arith, length-set}
+use Rattle.std.proofs.Common.{◌≡◌, ◌≢◌, ℕ, ◌+◌, ◌^◌, ◌<◌, ◌&&◌, ◌==◌, Bool, true, false, not, Option, inl, inr, All, Contains, List, [], ◌∷◌, None, if◌then◌else◌, length, get_or, set, refl, sym, subst, arith, length-set, Result}
 use Rattle.std.proofs.lemmas.List.{get_or-set_same, get_or-set_other}
 use Rattle.unwinding_law.proofs.Lists.{here}
 use Rattle.state_defs.specs.declared.state.State.{State}
@@ -8,8 +8,6 @@ use Rattle.machine_defs.specs.Program.{Program}
 use Rattle.machine_defs.specs.declared.flow.Edge.{Edge}
 use Rattle.machine_defs.specs.declared.flow.EdgeKind.{EdgeKind}
 use Rattle.machine_defs.specs.declared.flow.EdgeKind.TheVariants.{Next, Taken, Fixup, Table, Sibling}
-use Rattle.operation_defs.specs.declared.op.Op.{Op}
-use Rattle.state_defs.specs.Move.{move}
 use Rattle.machine_defs.specs.Kept.{brought_along, is_at_entry, moved, state_at}
 use Rattle.kept_states.specs.declared.passages.Passage.{Passage}
 use Rattle.kept_states.specs.declared.passages.Passage.TheVariants.{LastsStraight, MovesStraight, LastsAlongEdges, MovesAlongEdges}
@@ -85,12 +83,12 @@ pub not_first : (p : Program) (n : ℕ) → p.hint n ≡ None → is_at_entry p 
 not_first p n hint entry = rw hint (rw entry (no_state (p.unchecked n) None refl))
 
 -- a state that the operation leaves as it is goes along all edges but those to another function
-pub brought_same : (s t : State) (op : Op) (kind : EdgeKind) → kind ≢ Sibling → moved (move s op) ≡ t ∷ [] → s ≡ t → brought_along s op kind ≡ t ∷ []
-brought_same s t op Next other e same = e
-brought_same s t op Taken other e same = e
-brought_same s t op Fixup other e same = rw same refl
-brought_same s t op Table other e same = e
-brought_same s t op Sibling other e same = absurd (other refl)
+pub brought_same : (s t : State) (after : Result State ℕ) (kind : EdgeKind) → kind ≢ Sibling → moved after ≡ t ∷ [] → s ≡ t → brought_along s after kind ≡ t ∷ []
+brought_same s t after Next other e same = e
+brought_same s t after Taken other e same = e
+brought_same s t after Fixup other e same = rw same refl
+brought_same s t after Table other e same = e
+brought_same s t after Sibling other e same = absurd (other refl)
 
 -- a Next to the next point leads to one that there is
 pub next_inside : (edges : List Edge) (n points : ℕ) → edges ≡ next_edge n ∷ [] → All (λ e. e.to < points) edges → n + 1 < points

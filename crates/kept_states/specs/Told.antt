@@ -1,11 +1,9 @@
 -- What points in front have given so far.
-use Rattle.std.specs.Prelude.{◌≡◌, ℕ, ◌<◌, false, List, [], ◌∷◌, Option, Some, None, if◌then◌else◌, length, take}
-use Rattle.operation_defs.specs.declared.op.Op.{Op}
+use Rattle.std.specs.Prelude.{◌≡◌, ℕ, ◌<◌, false, List, [], ◌∷◌, Option, Some, None, Result, if◌then◌else◌, length, take}
 use Rattle.machine_defs.specs.declared.flow.Edge.{Edge}
 use Rattle.state_defs.specs.declared.state.State.{State}
 use Rattle.machine_defs.specs.Program.{Program}
-use Rattle.state_defs.specs.Move.{move}
-use Rattle.machine_defs.specs.Kept.{brought_along, is_free, moved}
+use Rattle.machine_defs.specs.Kept.{brought_along, is_free, moved, moved_at}
 use Rattle.kept_states.specs.Least.{IsLeast}
 use Rattle.kept_states.specs.LevelStates.{LevelStates, Offers, at, is_settled, offered}
 use Rattle.kept_states.specs.Gives.{IsGiven}
@@ -27,12 +25,12 @@ offer_all kept next n [] = next
 offer_all kept next n (t ∷ states) = offer_all kept (offered kept next n t) n states
 
 -- what is given along an edge, and to a RESTORE
-abbrev pub given_along : Program → State → Op → Edge → List State
-given_along p s op e = if p.unchecked e.to then [] else (if is_free (p.hint e.to) then brought_along s op e.kind else [])
+abbrev pub given_along : Program → State → Result State ℕ → Edge → List State
+given_along p s after e = if p.unchecked e.to then [] else (if is_free (p.hint e.to) then brought_along s after e.kind else [])
 
 abbrev pub given_to_restore : Program → State → ℕ → List State
 given_to_restore p s r = if p.unchecked r then [] else s ∷ []
 
 -- the point keeps a state that is in this slot, and its operation leaves it as it is
 abbrev pub Lasts : Program → List (Option State) → ℕ → Slot → Type 0
-Lasts p kept a slot = (at kept a ≡ Some (state_in slot no_numbers)) × (moved (move (state_in slot no_numbers) (p.insn a).op) ≡ state_in slot no_numbers ∷ [])
+Lasts p kept a slot = (at kept a ≡ Some (state_in slot no_numbers)) × (moved (moved_at p a (state_in slot no_numbers)) ≡ state_in slot no_numbers ∷ [])

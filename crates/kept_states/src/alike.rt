@@ -2,9 +2,8 @@
 
 ghost use Rattle.std.specs.Prelude.{◌≡◌, ◌<◌, ◌≤◌, ◌⊎◌, [], All, Contains, IsTrue, Ok, Some, length, take};
 ghost use Rattle.state_defs.specs.declared.state.State.{State as StateValue};
-ghost use Rattle.state_defs.specs.Move.{move};
 ghost use Rattle.machine_defs.specs.Program.{Program};
-ghost use Rattle.machine_defs.specs.Kept.{edges_of};
+ghost use Rattle.machine_defs.specs.Kept.{edges_of, moved_at};
 ghost use Rattle.program_graph.specs.Tells.{Tells};
 ghost use Rattle.kept_states.specs.Done.{HaveGivenAll, IsBroughtInVain};
 ghost use Rattle.kept_states.specs.LevelStates.{at};
@@ -21,7 +20,7 @@ pub(crate) const FEW_EDGES: usize = 8;
 fn leaves_state(graph: &Graph, levels: &Levels, n: u32) -> bool
     requires points { length levels.now.kept ≡ length graph.now.parts.points.items }
     requires point { n < length graph.now.parts.points.items }
-    ensures { IsTrue result → (p : Program) (s : StateValue) → Tells p graph.now.parts → at levels.now.kept n ≡ Some s → move s (p.insn n).op ≡ Ok s }
+    ensures { IsTrue result → (p : Program) (s : StateValue) → Tells p graph.now.parts → at levels.now.kept n ≡ Some s → moved_at p n s ≡ Ok s }
 {
     if !levels.is_short(n) {
         return false;
@@ -35,7 +34,7 @@ fn has_brought(graph: &Graph, levels: &Levels, n: u32) -> bool
     requires points { length levels.now.kept ≡ length graph.now.parts.points.items }
     requires point { n < length graph.now.parts.points.items }
     ensures done { IsTrue result → Contains levels.now.done n }
-    ensures moves { IsTrue result → (p : Program) (s : StateValue) → Tells p graph.now.parts → at levels.now.kept n ≡ Some s → move s (p.insn n).op ≡ Ok s }
+    ensures moves { IsTrue result → (p : Program) (s : StateValue) → Tells p graph.now.parts → at levels.now.kept n ≡ Some s → moved_at p n s ≡ Ok s }
 {
     if !levels.has_given(n) {
         return false;
@@ -52,7 +51,7 @@ fn brought_the_same(graph: &Graph, levels: &Levels, i: usize, first: u32, n: u32
     requires point { n < length graph.now.parts.points.items }
     ensures before { IsTrue result → Contains (take i levels.now.front) first }
     ensures alike { IsTrue result → at levels.now.kept first ≡ at levels.now.kept n }
-    ensures moves { IsTrue result → (p : Program) (s : StateValue) → Tells p graph.now.parts → at levels.now.kept n ≡ Some s → (move s (p.insn first).op ≡ Ok s) × (move s (p.insn n).op ≡ Ok s) }
+    ensures moves { IsTrue result → (p : Program) (s : StateValue) → Tells p graph.now.parts → at levels.now.kept n ≡ Some s → (moved_at p first s ≡ Ok s) × (moved_at p n s ≡ Ok s) }
 {
     if !levels.is_before(first, i) {
         return false;

@@ -2,9 +2,8 @@
 
 ghost use Rattle.std.specs.Prelude.{◌≡◌, ◌<◌, ◌∷◌, [], IfSome, Some, length, slice_index};
 ghost use Rattle.state_defs.specs.declared.state.State.{State};
-ghost use Rattle.state_defs.specs.Move.{move};
 ghost use Rattle.machine_defs.specs.Program.{Program};
-ghost use Rattle.machine_defs.specs.Kept.{brought_along, moved as moved_by};
+ghost use Rattle.machine_defs.specs.Kept.{brought_along, moved as moved_by, moved_at};
 ghost use Rattle.program_graph.specs.Tells.{Tells};
 ghost use Rattle.kept_states.specs.LevelStates.{StaysSame, at};
 ghost use Rattle.kept_states.specs.Passages.{ArePassages};
@@ -54,9 +53,9 @@ fn offer_stepped(graph: &Graph, levels: &mut Levels, i: usize, from: u32, to: u3
     ensures done { levels.new.done ≡ levels.old.done }
     ensures same { StaysSame levels.old levels.new }
     ensures len { length levels.new.next.states ≡ length levels.old.next.states }
-    ensures next { (p : Program) (s : State) → Tells p graph.now.parts → at levels.old.kept from ≡ Some s → levels.new.next ≡ offer_all levels.old.kept levels.old.next to (moved_by (move s (p.insn from).op)) }
+    ensures next { (p : Program) (s : State) → Tells p graph.now.parts → at levels.old.kept from ≡ Some s → levels.new.next ≡ offer_all levels.old.kept levels.old.next to (moved_by (moved_at p from s)) }
 {
-    if let Some(after) = stepped(levels.front_state(i), graph.insn(from).op) {
+    if let Some(after) = stepped(graph, from, levels.front_state(i)) {
         levels.offer(to, after);
     }
 }
@@ -75,7 +74,7 @@ fn offer_changed(graph: &Graph, levels: &mut Levels, i: usize, from: u32, to: u3
     ensures done { levels.new.done ≡ levels.old.done }
     ensures same { StaysSame levels.old levels.new }
     ensures len { length levels.new.next.states ≡ length levels.old.next.states }
-    ensures next { (p : Program) (s : State) → Tells p graph.now.parts → at levels.old.kept from ≡ Some s → levels.new.next ≡ offer_all levels.old.kept levels.old.next to (moved_by (move s (p.insn from).op)) }
+    ensures next { (p : Program) (s : State) → Tells p graph.now.parts → at levels.old.kept from ≡ Some s → levels.new.next ≡ offer_all levels.old.kept levels.old.next to (moved_by (moved_at p from s)) }
 {
     let before = levels.front_slot(i);
     match before.quickly_moved(graph.insn(from).op) {
@@ -109,7 +108,7 @@ pub(crate) fn offer_moved(
     ensures done { levels.new.done ≡ levels.old.done }
     ensures same { StaysSame levels.old levels.new }
     ensures len { length levels.new.next.states ≡ length levels.old.next.states }
-    ensures next { (p : Program) (s : State) → Tells p graph.now.parts → at levels.old.kept from ≡ Some s → levels.new.next ≡ offer_all levels.old.kept levels.old.next to (moved_by (move s (p.insn from).op)) }
+    ensures next { (p : Program) (s : State) → Tells p graph.now.parts → at levels.old.kept from ≡ Some s → levels.new.next ≡ offer_all levels.old.kept levels.old.next to (moved_by (moved_at p from s)) }
 {
     match lasting {
         Some(slot) => {
@@ -148,7 +147,7 @@ fn bring_changed(graph: &Graph, levels: &mut Levels, i: usize, from: u32, edge: 
     ensures done { levels.new.done ≡ levels.old.done }
     ensures same { StaysSame levels.old levels.new }
     ensures len { length levels.new.next.states ≡ length levels.old.next.states }
-    ensures next { (p : Program) (s : State) → Tells p graph.now.parts → at levels.old.kept from ≡ Some s → levels.new.next ≡ offer_all levels.old.kept levels.old.next edge.to (brought_along s (p.insn from).op edge.kind) }
+    ensures next { (p : Program) (s : State) → Tells p graph.now.parts → at levels.old.kept from ≡ Some s → levels.new.next ≡ offer_all levels.old.kept levels.old.next edge.to (brought_along s (moved_at p from s) edge.kind) }
 {
     match edge.kind {
         EdgeKind::Next | EdgeKind::Taken | EdgeKind::Table => {
@@ -181,7 +180,7 @@ fn bring_along(
     ensures done { levels.new.done ≡ levels.old.done }
     ensures same { StaysSame levels.old levels.new }
     ensures len { length levels.new.next.states ≡ length levels.old.next.states }
-    ensures next { (p : Program) (s : State) → Tells p graph.now.parts → at levels.old.kept from ≡ Some s → levels.new.next ≡ offer_all levels.old.kept levels.old.next edge.to (brought_along s (p.insn from).op edge.kind) }
+    ensures next { (p : Program) (s : State) → Tells p graph.now.parts → at levels.old.kept from ≡ Some s → levels.new.next ≡ offer_all levels.old.kept levels.old.next edge.to (brought_along s (moved_at p from s) edge.kind) }
 {
     let Some(slot) = lasting else {
         bring_changed(graph, levels, i, from, edge);
@@ -218,7 +217,7 @@ pub(crate) fn give_along(
     ensures done { levels.new.done ≡ levels.old.done }
     ensures same { StaysSame levels.old levels.new }
     ensures len { length levels.new.next.states ≡ length levels.old.next.states }
-    ensures next { (p : Program) (s : State) → Tells p graph.now.parts → at levels.old.kept from ≡ Some s → levels.new.next ≡ offer_all levels.old.kept levels.old.next edge.to (given_along p s (p.insn from).op edge) }
+    ensures next { (p : Program) (s : State) → Tells p graph.now.parts → at levels.old.kept from ≡ Some s → levels.new.next ≡ offer_all levels.old.kept levels.old.next edge.to (given_along p s (moved_at p from s) edge) }
 {
     if passage_at(passages, edge.to).is_open() {
         bring_along(graph, levels, i, from, lasting, edge);

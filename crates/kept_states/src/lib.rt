@@ -18,5 +18,6 @@ mod runs;
 mod slot;
 mod spreading;
 
+pub use moves::step_at;
 pub use neutral::is_neutral;
 pub use spreading::{Kept, Scratch, spread};

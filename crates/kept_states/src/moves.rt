@@ -1,19 +1,51 @@
-//! Moves of packed states.
+//! Moves of states at points.
 
-ghost use Rattle.std.specs.Prelude.{◌≡◌, option_map, option_to_list};
-ghost use Rattle.state_defs.specs.Move.{move};
-ghost use Rattle.machine_defs.specs.Kept.{moved as moved_by};
+ghost use Rattle.std.specs.Prelude.{◌≡◌, ◌<◌, length, option_map, option_to_list};
+ghost use Rattle.machine_defs.specs.Program.{Program};
+ghost use Rattle.machine_defs.specs.Kept.{loses_stack as is_loss, moved as moved_by, moved_at};
+ghost use Rattle.program_graph.specs.Tells.{Tells};
 ghost use Rattle.kept_states.specs.Packed.{state_of};
 
 use crate::packed::PackedState;
-use operation_defs::Op;
+use ot_base::rules::{BP_NOT_SAVED, SAVED_SLOT_DROPPED, STACK_POINTER_LOST, UNSUPPORTED_SP_WRITE};
+use program_graph::Graph;
 use stack_state::step;
+use state_defs::{EndKind, State};
 
-/// The state after an operation, if that isn't refused.
-pub(crate) fn stepped(state: PackedState, op: Op) -> Option<PackedState>
-    ensures { option_to_list (option_map state_of result) ≡ moved_by (move (state_of state) op) }
+/// Whether a move that this rule refuses has lost rsp or rbp.
+fn loses_stack(rule: u8) -> bool
+    ensures { result ≡ is_loss rule }
 {
-    match step(state.state(), op) {
+    rule == UNSUPPORTED_SP_WRITE
+        || rule == BP_NOT_SAVED
+        || rule == STACK_POINTER_LOST
+        || rule == SAVED_SLOT_DROPPED
+}
+
+/// The state after the instruction of a point, or the rule that refuses it. Where loose code loses rsp or rbp, the stack has
+/// ended, and no rule refuses it.
+pub fn step_at(graph: &Graph, n: u32, state: State) -> Result<State, u8>
+    requires { n < length graph.now.parts.points.items }
+    ensures { (p : Program) → Tells p graph.now.parts → result ≡ moved_at p n state }
+{
+    match step(state, graph.insn(n).op) {
+        Ok(after) => Ok(after),
+        Err(rule) => {
+            if loses_stack(rule) && graph.loose(n) {
+                Ok(State::Ended(EndKind::Undefined))
+            } else {
+                Err(rule)
+            }
+        }
+    }
+}
+
+/// The state after the instruction of a point, if no rule refuses it.
+pub(crate) fn stepped(graph: &Graph, n: u32, state: PackedState) -> Option<PackedState>
+    requires { n < length graph.now.parts.points.items }
+    ensures { (p : Program) → Tells p graph.now.parts → option_to_list (option_map state_of result) ≡ moved_by (moved_at p n (state_of state)) }
+{
+    match step_at(graph, n, state.state()) {
         Ok(after) => Some(PackedState::new(after)),
         Err(_) => None,
     }

@@ -3,8 +3,7 @@ use Rattle.std.proofs.Common.{◌≡◌, ◌≢◌, [], ◌∷◌, List, Option,
 use Rattle.std.specs.Prelude.{IfSome}
 use Rattle.machine_defs.specs.declared.flow.EdgeKind.TheVariants.{Sibling}
 use Rattle.state_defs.specs.declared.state.State.{State}
-use Rattle.state_defs.specs.Move.{move}
-use Rattle.machine_defs.specs.Kept.{moved}
+use Rattle.machine_defs.specs.Kept.{moved, moved_at}
 use Rattle.kept_states.specs.declared.slot.Slot.{Slot}
 use Rattle.kept_states.specs.LevelStates.{at}
 use Rattle.kept_states.specs.Packed.{no_numbers, state_in}
@@ -20,4 +19,4 @@ returns-clause-next c p s t has =
     let same : s ≡ state = of_state (λ (u : State). u ≡ state) (at c.args.levels.now.kept c.args.from) state lasts.0 refl s has in
     let other : c.args.edge.kind ≢ Sibling = search rules in
     c.offer.ensures.next ∙ ap (λ (gifts : List State). offer_all c.args.levels.now.kept c.args.levels.now.next c.args.edge.to gifts)
-    (sym (brought_same s state (p.insn c.args.from).op c.args.edge.kind other (subst (λ (u : State). moved (move u (p.insn c.args.from).op) ≡ state ∷ []) (sym same) lasts.1) same))
+    (sym (brought_same s state (moved_at p c.args.from s) c.args.edge.kind other (subst (λ (u : State). moved (moved_at p c.args.from u) ≡ state ∷ []) (sym same) lasts.1) same))

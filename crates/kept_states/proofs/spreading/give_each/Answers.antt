@@ -5,7 +5,7 @@ use Rattle.std.proofs.lemmas.List.{take_all}
 use Rattle.machine_defs.specs.declared.flow.Edge.{Edge}
 use Rattle.machine_defs.specs.declared.flow.EdgeKind.TheVariants.{Next}
 use Rattle.state_defs.specs.declared.state.State.{State}
-use Rattle.machine_defs.specs.Kept.{edges_of}
+use Rattle.machine_defs.specs.Kept.{edges_of, moved_at}
 use Rattle.kept_states.specs.Gives.{IsGiven}
 use Rattle.kept_states.specs.LevelStates.{Offers, at}
 use Rattle.kept_states.specs.Told.{AreLeast, Lasts, offer_all, given_along, given_to_restore}
@@ -21,7 +21,7 @@ loop-edge-init c = record {
   done = refl;
   same = (refl, refl, λ e. e);
   next = c.requires.next;
-  given = λ p s t has. no_edge c.args.levels.now.kept p s (IsGiven p (at c.args.levels.now.kept) (take c.args.i c.args.levels.now.front)) c.args.levels.now.next (p.insn c.front-a.result).op c.giving_edges-edge-items.result.now (c.requires.given p t);
+  given = λ p s t has. no_edge c.args.levels.now.kept p s (IsGiven p (at c.args.levels.now.kept) (take c.args.i c.args.levels.now.front)) c.args.levels.now.next (moved_at p c.front-a.result s) c.giving_edges-edge-items.result.now (c.requires.given p t);
 }
 
 pub loop-edge-preserved : goal.loop-edge-preserved
@@ -40,12 +40,12 @@ loop-edge-preserved c =
       same = same_still c.args.levels.now c.loop-edge.levels c.give_along.new.levels c.loop-edge.invariant.same c.give_along.ensures.same;
       next = c.give_along.ensures.len ∙ long;
       given = λ p s t has.
-          let gift : List State = given_along p s (p.insn c.front-a.result).op e in
+          let gift : List State = given_along p s (moved_at p c.front-a.result s) e in
           let A : ℕ → State → Type 0 = IsGiven p (at kept) (take c.args.i c.args.levels.now.front) in
           let m : c.give_along.new.levels.next ≡ offer_all kept c.loop-edge.levels.next e.to gift =
           c.give_along.ensures.next p s t (ap (λ (k : List (Option State)). at k c.front-a.result) c.loop-edge.invariant.kept ∙ has) ∙ ap (λ (k : List (Option State)). offer_all k c.loop-edge.levels.next e.to gift) c.loop-edge.invariant.kept in
-          subst (λ (n : Offers). AreLeast kept n (WithEdges A p s (p.insn c.front-a.result).op (take (c.loop-edge.edge-index + 1) items))) (sym m)
-          (edge_more kept p s A c.loop-edge.levels.next (p.insn c.front-a.result).op items c.loop-edge.edge-index d e c.loop-edge-test.true refl inside (c.loop-edge.invariant.given p s t has));
+          subst (λ (n : Offers). AreLeast kept n (WithEdges A p s (moved_at p c.front-a.result s) (take (c.loop-edge.edge-index + 1) items))) (sym m)
+          (edge_more kept p s A c.loop-edge.levels.next (moved_at p c.front-a.result s) items c.loop-edge.edge-index d e c.loop-edge-test.true refl inside (c.loop-edge.invariant.given p s t has));
     }
 
 pub loop-restore-init : goal.loop-restore-init
@@ -60,13 +60,13 @@ loop-restore-init c = record {
       let items : List Edge = c.giving_edges-edge-items.result.now in
       let A : ℕ → State → Type 0 = IsGiven p (at kept) (take c.args.i c.args.levels.now.front) in
       let next : Offers = c.loop-edge.levels.next in
-      let listed : AreLeast kept next (WithEdges A p s (p.insn c.front-a.result).op items) =
-      subst (λ (es : List Edge). AreLeast kept next (WithEdges A p s (p.insn c.front-a.result).op es)) (take_all c.loop-edge.edge-index items c.loop-edge-test.false) (c.loop-edge.invariant.given p s t has) in
-      let edges : AreLeast kept next (WithEdges A p s (p.insn c.front-a.result).op (edges_of p c.front-a.result)) = elim (c.giving_edges-edge-items.ensures.edges p t (c.requires.done p t)) [
-        | inl e ↦ subst (λ (es : List Edge). AreLeast kept next (WithEdges A p s (p.insn c.front-a.result).op es)) e listed
-        | inr r ↦ in_vain p c.args.levels.now next c.args.i c.front-a.result s (t.count ∙ sym c.requires.points) has r.1 c.loop-edge.invariant.same.1 c.loop-edge.invariant.same.2 (subst (λ (es : List Edge). AreLeast kept next (WithEdges A p s (p.insn c.front-a.result).op es)) r.0 listed)
+      let listed : AreLeast kept next (WithEdges A p s (moved_at p c.front-a.result s) items) =
+      subst (λ (es : List Edge). AreLeast kept next (WithEdges A p s (moved_at p c.front-a.result s) es)) (take_all c.loop-edge.edge-index items c.loop-edge-test.false) (c.loop-edge.invariant.given p s t has) in
+      let edges : AreLeast kept next (WithEdges A p s (moved_at p c.front-a.result s) (edges_of p c.front-a.result)) = elim (c.giving_edges-edge-items.ensures.edges p t (c.requires.done p t)) [
+        | inl e ↦ subst (λ (es : List Edge). AreLeast kept next (WithEdges A p s (moved_at p c.front-a.result s) es)) e listed
+        | inr r ↦ in_vain p c.args.levels.now next c.args.i c.front-a.result s (t.count ∙ sym c.requires.points) has r.1 c.loop-edge.invariant.same.1 c.loop-edge.invariant.same.2 (subst (λ (es : List Edge). AreLeast kept next (WithEdges A p s (moved_at p c.front-a.result s) es)) r.0 listed)
       ] in
-      no_restore kept p s (WithEdges A p s (p.insn c.front-a.result).op (edges_of p c.front-a.result)) c.loop-edge.levels.next c.restores_of-restore-items.result.now edges;
+      no_restore kept p s (WithEdges A p s (moved_at p c.front-a.result s) (edges_of p c.front-a.result)) c.loop-edge.levels.next c.restores_of-restore-items.result.now edges;
 }
 
 pub loop-restore-preserved : goal.loop-restore-preserved
@@ -85,7 +85,7 @@ loop-restore-preserved c =
       next = c.give_to_restore.ensures.len ∙ long;
       given = λ p s t has.
           let gift : List State = given_to_restore p s r in
-          let A : ℕ → State → Type 0 = WithEdges (IsGiven p (at kept) (take c.args.i c.args.levels.now.front)) p s (p.insn c.front-a.result).op (edges_of p c.front-a.result) in
+          let A : ℕ → State → Type 0 = WithEdges (IsGiven p (at kept) (take c.args.i c.args.levels.now.front)) p s (moved_at p c.front-a.result s) (edges_of p c.front-a.result) in
           let front : get_or c.loop-restore.levels.front c.args.i 0 ≡ c.front-a.result = ap (λ (f : List ℕ). get_or f c.args.i 0) c.loop-restore.invariant.front ∙ sym c.front-a.ensures.front in
           let here : at c.loop-restore.levels.kept (get_or c.loop-restore.levels.front c.args.i 0) ≡ Some s = ap (at c.loop-restore.levels.kept) front ∙ (ap (λ (k : List (Option State)). at k c.front-a.result) c.loop-restore.invariant.kept ∙ has) in
           let m : c.give_to_restore.new.levels.next ≡ offer_all kept c.loop-restore.levels.next r gift =
@@ -103,7 +103,7 @@ returns-clause-given c p t =
     let w = state_of_some (at kept c.front-a.result) c.front-a.ensures.kept in
     let s : State = w.0 in
     let has : at kept c.front-a.result ≡ Some s = w.1 in
-    let A : ℕ → State → Type 0 = WithEdges (IsGiven p (at kept) (take c.args.i front)) p s (p.insn c.front-a.result).op (edges_of p c.front-a.result) in
+    let A : ℕ → State → Type 0 = WithEdges (IsGiven p (at kept) (take c.args.i front)) p s (moved_at p c.front-a.result s) (edges_of p c.front-a.result) in
     let all : AreLeast kept next (WithRestores A p s items) =
     subst (λ (rs : List ℕ). AreLeast kept next (WithRestores A p s rs)) (take_all c.loop-restore.restore-index items c.loop-restore-test.false) (c.loop-restore.invariant.given p s t has) in
     let more : AreLeast kept next (IsGiven p (at kept) (take (c.args.i + 1) front)) =

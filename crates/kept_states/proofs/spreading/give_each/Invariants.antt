@@ -1,6 +1,6 @@
 use Rattle.std.proofs.Common.{◌≡◌, Some, length, take}
 use Rattle.machine_defs.specs.Program.{Program}
-use Rattle.machine_defs.specs.Kept.{edges_of}
+use Rattle.machine_defs.specs.Kept.{edges_of, moved_at}
 use Rattle.program_graph.specs.Tells.{Tells}
 use Rattle.kept_states.specs.Gives.{IsGiven}
 use Rattle.kept_states.specs.LevelStates.{StaysSame, at}
@@ -16,7 +16,7 @@ invariant-loop-edge l = record {
   done : l.levels.done ≡ l.fn.levels.done;
   same : StaysSame l.fn.levels l.levels;
   next : length l.levels.next.states ≡ length l.fn.levels.kept;
-  given : (p : Program) (s : State) → Tells p l.graph.parts → at l.fn.levels.kept l.a ≡ Some s → AreLeast l.fn.levels.kept l.levels.next (WithEdges (IsGiven p (at l.fn.levels.kept) (take l.i l.fn.levels.front)) p s (p.insn l.a).op (take l.edge-index l.edge-items));
+  given : (p : Program) (s : State) → Tells p l.graph.parts → at l.fn.levels.kept l.a ≡ Some s → AreLeast l.fn.levels.kept l.levels.next (WithEdges (IsGiven p (at l.fn.levels.kept) (take l.i l.fn.levels.front)) p s (moved_at p l.a s) (take l.edge-index l.edge-items));
 }
 
 abbrev pub invariant-loop-restore : goal.invariant-loop-restore
@@ -26,5 +26,5 @@ invariant-loop-restore l = record {
   done : l.levels.done ≡ l.fn.levels.done;
   same : StaysSame l.fn.levels l.levels;
   next : length l.levels.next.states ≡ length l.fn.levels.kept;
-  given : (p : Program) (s : State) → Tells p l.graph.parts → at l.fn.levels.kept l.a ≡ Some s → AreLeast l.fn.levels.kept l.levels.next (WithRestores (WithEdges (IsGiven p (at l.fn.levels.kept) (take l.i l.fn.levels.front)) p s (p.insn l.a).op (edges_of p l.a)) p s (take l.restore-index l.restore-items));
+  given : (p : Program) (s : State) → Tells p l.graph.parts → at l.fn.levels.kept l.a ≡ Some s → AreLeast l.fn.levels.kept l.levels.next (WithRestores (WithEdges (IsGiven p (at l.fn.levels.kept) (take l.i l.fn.levels.front)) p s (moved_at p l.a s) (edges_of p l.a)) p s (take l.restore-index l.restore-items));
 }
