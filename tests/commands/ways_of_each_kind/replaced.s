@@ -3,8 +3,8 @@
 	.type	f, @function
 f:	je	1f
 	ret
-1:	nop
-	nop
+1:	clc
+	clc
 	ret
 	.size	f, . - f
 	.section .altinstr_replacement, "ax", @progbits
