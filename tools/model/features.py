@@ -3,7 +3,7 @@
 import sys
 
 from elf import LOCAL, R_32S, R_64, WEAK
-from sketch import CALL, END, PARTIAL, REPLACEMENTS, RESTORE, SAVE, UNDEFINED_HINT, Sketch, alt, hint, to
+from sketch import CALL, END, FUNC_HINT, PARTIAL, REGS, REPLACEMENTS, RESTORE, SAVE, UNDEFINED_HINT, Sketch, alt, hint, label, to
 
 COLD, AUX = ".text.unlikely", ".altinstr_aux"
 
@@ -17,7 +17,7 @@ NEVER = (
     "ex_handler_msr_mce hlt_play_dead hv_ghcb_terminate kthread_complete_and_exit kunit_try_catch_throw "
     "machine_real_restart mpt_halt_firmware nmi_panic_self_stop panic_smp_self_stop rest_init rust_begin_unwind "
     "rust_helper_BUG sev_es_terminate snp_abort start_kernel x86_64_start_kernel x86_64_start_reservations "
-    "xen_cpu_bringup_again xen_start_kernel printk"
+    "xen_cpu_bringup_again xen_start_kernel __reiserfs_panic printk"
 ).split()
 SAFE = (
     "__fentry__ rep_movs_alternative rep_stos_alternative __copy_user_nocache copy_mc_fragile copy_mc_enhanced_fast_string "
@@ -209,6 +209,84 @@ FEATURES = {
         branches=[[(REPLACEMENTS, 1), 6]], fixups=[[(REPLACEMENTS, 1), 7]], unreachable=[(REPLACEMENTS, 2)], hints=[hint((REPLACEMENTS, 1), SAVE)],
         alternatives=[alt(0, 5, 0, 1)],
     ),  # fmt: skip
+    "runs_of_nops": f(
+        "9090 74fd 909090 6690 90 f390 9090 c3 9090 c3", {REPLACEMENTS: "66909c58 909058 0f1f8000000000 90 6690 9c58"}.items(),
+        alternatives=[alt(0, 4, 0, 4), alt(4, 3, 4, 2), alt(7, 7, 7, 7), alt(15, 2, 17, 2)],
+    ),  # fmt: skip
+    "runs_of_nops_with_hints": f("909090 90 58 c3", {REPLACEMENTS: "0f1f00"}.items(), alternatives=[alt(0, 3, 0, 3)], hints=[hint(1, CALL, 16), hint(4, CALL, 16)]),
+    "runs_of_nops_that_are_static": f("909090 c3 909090 c3", {REPLACEMENTS: "0f1f00"}.items(), branches=[[1, 3]], unreachable=[5], alternatives=[alt(0, 3, 0, 3), alt(4, 3, 0, 3)]),
+    "run_of_nops_at_the_end": Sketch({".text": "9090", REPLACEMENTS: "eb00"}, [("f", 0, 1)], alternatives=[alt(0, 2, 0, 2)]),
+    "hints_where_sites_start": Sketch(
+        {".text": "53 6690 90 6690 5b c3 6690 48cf 6690 c3", REPLACEMENTS: "f8f8 f9f9 f8 f5f5"}, [("f", 0, 8)],
+        alternatives=[alt(1, 2, 0, 2), alt(4, 2, 2, 2), alt(4, 2, 4, 1), alt(8, 2, 4, 0), alt(12, 2, 5, 2)],
+        hints=[hint(1, SAVE), hint(4, RESTORE), hint(8, PARTIAL, 0, 1), hint(12, END), hint((REPLACEMENTS, 5), SAVE)],
+    ),  # fmt: skip
+    "rsp_written_before_a_site": f("4889c4 6690 5b c3", {REPLACEMENTS: "f8f8 f9f9"}.items(), alternatives=[alt(3, 2, 0, 2), alt(3, 2, 2, 1)], hints=[hint(3, CALL, 16)]),
+    "restore_without_save_in_a_site": f("9090 c3", {REPLACEMENTS: "f8f8"}.items(), alternatives=[alt(0, 2, 0, 1), alt(0, 2, 0, 0)], hints=[hint(0, RESTORE)]),
+    # Code that is checked as far as it goes, or switches tasks
+    "loose": Sketch(
+        {".text": "53 488b27 5b 7401 c3 e900000000 e8eeffffff c3"}, [("asm_exc_nmi", 0, 13), ("f", 13, 6)],
+        relocs=[to(9, "g")],
+    ),  # fmt: skip
+    "loose_labels": Sketch(
+        {".text": "90 488b27 90 90 48cf 488b27 c3 c3"}, [label("restore_registers", 0, 6), label("wakeup_long64", 8, 0), ("f", 8, 4)],
+        hints=[hint(0, PARTIAL, 0, 1), hint(4, REGS, 8, 0, 2)],
+    ),  # fmt: skip
+    "loose_in_a_site": Sketch({".text": "909090 c3", REPLACEMENTS: "488b27"}, [("sev_verify_cbit", 0, 4)], alternatives=[alt(0, 3, 0, 3)]),
+    "loose_and_joined": Sketch({".text": "488b27 0f8400000000 e900000000 c3"}, [("wakeup_long64", 0, 14), ("f", 14, 1)], relocs=[to(5, "f"), to(10, "f")]),
+    "switch_of_tasks": Sketch(
+        {".text": "55 488b26 498b26 488b6608 488b24c6 488ba600010000 4c8b26 5d c3 55 65488b26 5d c3 55 8b26 5d c3 55 67488b26 5d c3"},
+        [("__switch_to_asm", 0, 27), ("f", 27, 7), ("g", 34, 5), ("h", 39, 7), label("__switch_to_asm", 27, 19)],
+    ),
+    # Code that returns for its caller
+    "returning": Sketch(
+        {".text": "7405 e800000000 7405 e900000000 0f8400000000 74f8 c3 48b8488d642408c3cccc c3 90 7405 e8fbffffff e8dfffffff"},
+        [("f", 0, 34), label("srso_safe_ret", 25, 8), label("retbleed_return_thunk", 37), ("g", 34, 13), label("retbleed_return_thunk", 14)],
+        relocs=[to(3, "srso_safe_ret"), to(10, "srso_safe_ret"), to(16, "srso_safe_ret")], intra=[37],
+    ),  # fmt: skip
+    "returning_in_a_replacement": Sketch(
+        {".text": "0f1f440000 c3 48b8488d642408c3cccc c3", REPLACEMENTS: "e800000000 90 e8faffffff"},
+        [("f", 0, 17), label("srso_safe_ret", 8, 8), label("srso_alias_safe_ret", (REPLACEMENTS, 5))],
+        relocs=[to(1, "srso_safe_ret", REPLACEMENTS)], alternatives=[alt(0, 5, 0, 5), alt(0, 5, 6, 5)],
+    ),  # fmt: skip
+    "returning_with_a_fixup": Sketch({".text": "e800000000 c3 f6c3cc c3"}, [("f", 0, 10), label("retbleed_return_thunk", 7)], relocs=[to(1, "retbleed_return_thunk")], fixups=[[0, 5]]),
+    # Joined objects
+    "marked_calls": Sketch(
+        {".text": "e800000000 ffd0 e800000000 53 e802000000 5b c3 f4 ebfd"}, [("f", 0, 20), ("g", 20, 3)], relocs=[to(1, "panic"), to(8, "do_exit")],
+        reachable=[5, 7, 12, 18], unreachable=[5, 12],
+    ),  # fmt: skip
+    "calls_of_no_function": Sketch(
+        {".text": "e800000000 e800000000 e800000000 e806000000 e800000000 c3 c3 c3 48cf c3 c3"},
+        [("f", 0, 26), label("a", 26), label("b", 27, 1, WEAK), label("c", 28, 2), label("d", 31), label("l", 26, 1, LOCAL)],
+        relocs=[to(1, "a"), to(6, "b"), to(11, "c"), to(21, "l")], hints=[hint(26, FUNC_HINT), hint(27, END), hint(28, PARTIAL, 0, 1), hint(31, CALL, 8)],
+    ),  # fmt: skip
+    "calls_of_listed_code": Sketch({".text": "7405 e800000000 90 c3"}, [("f", 0, 7), label("rest_init", 7, 2)], relocs=[to(3, "rest_init")], hints=[hint(7, FUNC_HINT), hint(8, FUNC_HINT)]),
+    "calls_of_a_site": Sketch(
+        {".text": "e800000000 e800000000 c3 6690 c3 6690 c3", REPLACEMENTS: "6690 90"}, [("f", 0, 11), label("a", 11), label("b", 14)],
+        relocs=[to(1, "a"), to(6, "b")], alternatives=[alt(11, 2, 0, 2), alt(14, 2, 2, 1)], hints=[hint(11, FUNC_HINT), hint(14, FUNC_HINT), hint((REPLACEMENTS, 2), SAVE)],
+    ),  # fmt: skip
+    "calls_of_a_gate_in_a_site": Sketch(
+        {".text": "e800000000 c3 6690 48cf 90 90 48cf", REPLACEMENTS: "6690 9090"}, [("f", 0, 6), label("a", 11)],
+        relocs=[to(1, "a")], alternatives=[alt(6, 2, 0, 2), alt(10, 2, 2, 2)], hints=[hint(6, PARTIAL, 0, 1), hint(11, PARTIAL, 0, 1)],
+    ),  # fmt: skip
+    "joined_jumps": Sketch(
+        {".text": "c3 53 0f8400000000 e900000000 90 0f8500000000 48cf eb00 e9e3ffffff"},
+        [("f", 0, 1), ("w", 0, 1, WEAK), ("l", 0, 1, LOCAL)],
+        relocs=[to(4, "f"), to(9, "w"), to(16, "l")], hints=[hint(1, END), hint(14, PARTIAL, 0, 1), hint(22, END)],
+    ),  # fmt: skip
+    "joined_calls": Sketch({".text": "c3 e800000000 c3"}, [("f", 0, 1)], relocs=[to(2, "g")], fixups=[[1, 0]], hints=[hint(1, END)]),
+    "holes": Sketch(
+        {".text": "53 c3 53 7402 c3 90 c3 53 c3", COLD: "53 5b c3 5b c3"},
+        [("f", 1, 1), ("f.cold", (COLD, 0), 3, LOCAL), ("f.cold.1", (COLD, 3), 2, LOCAL), label("h", 8, 1)],
+        relocs=[], files=2,
+    ),  # fmt: skip
+    "holes_with_parts": Sketch(
+        {".text": "c3 53 e900000000 0f8400000000 c3", COLD: "53 5b c3 5b c3"},
+        [("f", 0, 1), ("f.cold", (COLD, 0), 3, LOCAL), ("f.cold.1", (COLD, 3), 2, LOCAL)],
+        relocs=[to(3, (COLD, 1)), to(9, (COLD, 3))], files=2,
+    ),  # fmt: skip
+    "one_file": Sketch({".text": "c3 53 c3"}, [("f", 0, 1)], files=1),
+    "initial_code": Sketch({".init.text": "ffd0 c3", ".init.text.more": "ffd0 c3"}, [("f", (".init.text", 0), 3), ("g", (".init.text.more", 0), 3)]),
     # Hints
     "hints": f("90 90 90 90 90 c3", hints=[hint(i, kind, 16) for i, kind in enumerate((UNDEFINED_HINT, END, CALL, SAVE, RESTORE))]),
     "saves": Sketch(
@@ -237,6 +315,9 @@ FEATURES = {
         {".text": "0f01cb 740a 7509 0f8000000000 ffe0 c3 c3"}, [("f", 0, 15), ("g", 15, 1), ("rep_stos_alternative", 16, 1)], relocs=[to(9, "h")]
     ),
     "access_and_popf": f("9c 9d 0f01cb 9c 9d 0f01ca c3"),
+    "access_off_in_no_owner": Sketch({".text": "0f01ca 9d c3 0f01cb 9c 9d 0f01ca c3"}, [("f", 5, 9)], hints=[hint(0, CALL, 16)]),
+    "access_off_in_a_part": Sketch({".text": "0f8400000000 c3", COLD: "0f01ca c3"}, [("f", 0, 7), ("f.cold", (COLD, 0), 4, LOCAL)], relocs=[to(2, (COLD, 0))]),
+    "access_and_code_of_no_function": Sketch({".text": "0f01cb e800000000 0f01ca c3 c3"}, [("f", 0, 12), label("rep_movs_alternative", 12)], relocs=[to(4, "rep_movs_alternative")], hints=[hint(12, FUNC_HINT)]),
     "access_and_faults": f("0f01cb 8b07 0f01ca c3 0f01ca c3", fixups=[[0, 8], [3, 9]]),
     "access_in_a_safe_function": Sketch({".text": "90 0f01cb c3 0f01ca 0f01cb c3 c3"}, [("rep_movs_alternative", 0, 5), ("copy_mc_fragile", 5, 7), ("__fentry__", 12, 1)]),
     "access_in_a_part": Sketch(

@@ -258,11 +258,11 @@ class Flow(Points):
             return Role("CallOut", None, unchecked)
         if self.is_entry(place) or self._may_call(point, place):
             return Role("CallIn", place) if weak is None else Role("CallEither", place, weak)
+        if not local and self._enters_site(point, place):
+            self.into_site.add(point)
         named = self.named(point)
         if self.owner[point] is not None and named is not None and self._is_gate(place):
             return Role("CallOut", None, named)
-        if not local and self._enters_site(point, place):
-            self.into_site.add(point)
         return self._call_middle(point)
 
     def _call_middle(self, point: Point) -> Role:

@@ -1,7 +1,7 @@
 """Small objects written down by hand: code as hexadecimal digits, and places as offsets of `.text` or pairs of section and offset."""
 
 import elf
-from elf import ALLOC, EXECINSTR, FUNC, GLOBAL, LOCAL, NOTYPE, SECTION, UNDEFINED, Reloc, Symbol
+from elf import ABSOLUTE, ALLOC, EXECINSTR, FILE, FUNC, GLOBAL, LOCAL, NOTYPE, SECTION, UNDEFINED, Reloc, Symbol
 from elf_make import NewSection, make
 
 REPLACEMENTS = ".altinstr_replacement"
@@ -14,6 +14,7 @@ SECTIONS = {
     "unreachable": (".discard.unreachable", 4),
     "unchecked": (".discard.func_stack_frame_non_standard", 4),
     "safe": (".discard.retpoline_safe", 4),
+    "intra": (".discard.intra_function_calls", 4),
 }
 
 
@@ -22,9 +23,9 @@ def spot(place) -> tuple[str, int]:
 
 
 class Sketch:
-    """An object. `code` and `data` are sections by name; `functions` have a name, a place and a size, and maybe a bind."""
+    """An object. `code` and `data` are sections by name; `functions` have a name, a place and a size, and maybe a bind and a type."""
 
-    def __init__(self, code, functions=(), data=None, relocs=(), without_symbol=(), **entries):
+    def __init__(self, code, functions=(), data=None, relocs=(), without_symbol=(), files=0, **entries):
         self.parts = [NewSection(name.encode(), flags=ALLOC | EXECINSTR, body=bytes.fromhex(hexa)) for name, hexa in code.items()]
         self.parts += [NewSection(name.encode(), body=bytes(size)) for name, size in (data or {}).items()]
         self.number = {part.name.decode(): i for i, part in enumerate(self.parts, 1)}
@@ -32,9 +33,11 @@ class Sketch:
         for kind, listed in entries.items():
             self._entries(*SECTIONS[kind], listed)
         self.symbols = [("", Symbol(b"", LOCAL, SECTION, 0, i, 0, 0)) for name, i in self.number.items() if name not in without_symbol]
-        for name, place, size, *bind in functions:
+        for name, place, size, *how in functions:
             sec, off = spot(place)
-            self.symbols.append((name, Symbol(name.encode(), *(bind or [GLOBAL]), FUNC, 0, self.number[sec], off, size)))
+            bind, kind = [*how, GLOBAL, FUNC][0], how[1] if len(how) > 1 else FUNC
+            self.symbols.append((name, Symbol(name.encode(), bind, kind, 0, self.number[sec], off, size)))
+        self.symbols += [(f"file {i}", Symbol(b"made%d.c" % i, LOCAL, FILE, 0, ABSOLUTE, 0, 0)) for i in range(files)]
         names = {target for *_, target, _ in self.fields if isinstance(target, str)} - {name for name, _ in self.symbols}
         self.symbols += [(name, Symbol(name.encode(), GLOBAL, NOTYPE, 0, UNDEFINED, 0, 0)) for name in sorted(names)]
         self.symbols.sort(key=lambda item: item[1].bind != LOCAL)
@@ -75,8 +78,13 @@ def alt(start: int, length: int, replacement: int, size: int, feature: int = 1, 
     return [start, (sec, replacement), numbers]
 
 
-def hint(place, kind: int, sp_offset: int = 8, signal: int = 0):
-    return [place, sp_offset.to_bytes(2, "little") + bytes([5, kind, signal, 0, 0, 0])]
+def hint(place, kind: int, sp_offset: int = 8, signal: int = 0, sp_reg: int = 5):
+    return [place, sp_offset.to_bytes(2, "little") + bytes([sp_reg, kind, signal, 0, 0, 0])]
+
+
+def label(name: str, place, size: int = 1, bind: int = GLOBAL):
+    """A symbol that is no function."""
+    return name, place, size, bind, NOTYPE
 
 
 UNDEFINED_HINT, END, CALL, REGS, PARTIAL, FUNC_HINT, SAVE, RESTORE = range(8)
