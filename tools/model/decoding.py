@@ -1,8 +1,8 @@
 """Compares what is decoded with the model, over instructions by lot: decoding.py PROGRAM SEED [--all-opcodes].
 
-Each opcode of each map stands with each ModRM byte, behind prefixes by lot; besides there are bytes by lot, and bytes that end
-early. With --all-opcodes the whole map reads them, and there are those behind VEX and EVEX. PROGRAM prints what it decodes from
-records (tools/compare/programs/decoding.rt.txt).
+Each opcode of each map stands with each ModRM byte, behind prefixes by lot; besides there are bytes by lot, bytes that end early, and
+instructions behind what stands before emulated ones. With --all-opcodes the whole map reads them, and there are those behind VEX and
+EVEX. PROGRAM prints what it decodes from records (tools/compare/programs/decoding.rt.txt).
 """
 
 import itertools
@@ -11,7 +11,7 @@ import subprocess
 import sys
 import tempfile
 
-from opcodes import Fault, decode
+from opcodes import EMULATED, Fault, decode
 from rust_text import op_text
 
 PREFIXES = (0x66, 0x67, 0xF2, 0xF3, 0xF0, 0x2E, 0x36, 0x3E, 0x26, 0x64, 0x65)
@@ -49,6 +49,17 @@ def vector_codes(rng: random.Random):
         yield code[: rng.randint(0, len(code))]
 
 
+def emulated_codes(rng: random.Random):
+    """Instructions behind what stands before emulated ones, once or twice, with a byte changed or cut."""
+    for _ in range(40_000):
+        before = bytearray(rng.choice(EMULATED) * rng.choice((1, 1, 1, 1, 1, 1, 1, 2)))
+        if rng.random() < 0.1:
+            before[rng.randrange(len(before))] ^= 1 << rng.randrange(8)
+        tail = rng.choice((b"\x0f\xa2", b"\x31\xc0", b"\x0f\x01\xd0", b"\x48\xb8", b"\x48\x81\x84\x24", b"\xc4\xe2\x71", b"\x64\x67\x66", b""))
+        code = bytes(before) + (prefixes(rng) if rng.random() < 0.3 else b"") + tail + bytes(rng.getrandbits(8) for _ in range(16))
+        yield code[: 16 if rng.random() < 0.7 else rng.randint(0, 16)]
+
+
 def codes(rng: random.Random):
     for escape in ESCAPES:
         for opcode in range(256):
@@ -71,7 +82,7 @@ def model_line(code: bytes, whole: bool) -> str:
 
 def main(program: str, seed: str, *words: str) -> int:
     rng = random.Random(seed)
-    records = [code[:16] for code in itertools.chain(codes(rng), vector_codes(rng) if words else ())]
+    records = [code[:16] for code in itertools.chain(codes(rng), emulated_codes(rng), vector_codes(rng) if words else ())]
     with tempfile.NamedTemporaryFile() as file:
         file.write(b"".join(bytes([len(code)]) + code.ljust(16, b"\0") for code in records))
         file.flush()

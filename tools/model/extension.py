@@ -17,7 +17,8 @@ TWO_BYTE = """
 01     CC,CE,CF   .  .  6
 01     C6,D9      .  .  32
 01     Em/5       .  .  3
-01     E8,EA,ED-EF,FA,FD-FF . . 3
+01     E8,EA,EC-EF,FA,FD-FF . . 3
+01     CA         .  .  32
 01     FE,FF      .  .  2
 10-11  E          .  .  n632
 12     E          .  .  n32
@@ -27,6 +28,7 @@ TWO_BYTE = """
 16     E          .  .  n3
 16     Em         .  .  6
 17     Em         .  .  n6
+18     Em/4567    .  .  n6
 19-1D  E          .  .  n6
 28-29  E          .  .  n6
 2A     E          .  .  n632
@@ -58,6 +60,7 @@ TWO_BYTE = """
 7E     E          .  m  n6
 7E     E          .  .  3
 7F     E          .  .  n63
+AA     none       .  .  n
 AE     E/46       .  .  3
 AE     Er/5       .  .  3
 AE     Er/6       .  .  62
@@ -98,6 +101,7 @@ F8                        Em . . 632
 F8                        Er . m 2
 F8                        Er . . 3
 F9                        Em . . n
+FA,FB                     Er . r 3
 """
 
 # Behind 0F 3A.

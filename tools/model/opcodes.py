@@ -3,7 +3,8 @@
 A spelling of an instruction is: legacy prefixes in any number and order, at most one REX prefix, the opcode (one byte, `0F` and
 a byte, `0F 38` or `0F 3A` and a byte), ModRM with SIB and displacement where the opcode has them, and the immediate. In the whole
 map VEX or EVEX and a byte may stand in the place of the opcode, without REX, 66, F2, F3 and F0. What follows the prefixes is told by
-the opcode map.
+the opcode map. In the whole map ud2 and "xen" or "kvm" before a spelling of a plain instruction make one instruction of both, which a
+hypervisor emulates.
 """
 
 from typing import NamedTuple, Optional
@@ -15,6 +16,8 @@ LEGACY = {0x66, 0x67, 0x2E, 0x36, 0x3E, 0x26, 0x64, 0x65, 0xF0, 0xF2, 0xF3}
 # Which map an opcode leads to.
 ESCAPES = {(1, 0x0F): 2, (2, 0x38): 3, (2, 0x3A): 4}
 LONGEST = 15
+# What stands before an instruction that a hypervisor emulates.
+EMULATED = (b"\x0f\x0bxen", b"\x0f\x0bkvm")
 RSP, RBP = 4, 5
 
 
@@ -218,7 +221,8 @@ def read_immediate(reader: Reader, imm: str, opsize: bool, wide: bool) -> Option
 
 
 class Known:
-    """The instructions of a map that were read so far, by their bytes: an instruction is told by these alone, whatever stands behind."""
+    """The instructions of a map that were read so far, by their bytes: an instruction is told by these alone, whatever stands behind. Only
+    a ud2 of the whole map isn't."""
 
     # How many they are at most.
     MOST = 50_000
@@ -249,13 +253,29 @@ def decode(code: bytes, start: int = 0, whole: bool = False):
     known = KNOWN[whole].find(code, start)
     if known is not None:
         return known
+    insn = (emulated(code, start) if whole else None) or spelled(code, start, whole)
+    if isinstance(insn, Insn) and not (whole and insn.op == "Ud2"):
+        KNOWN[whole].add(code[start : start + insn.length], insn)
+    return insn
+
+
+def spelled(code: bytes, start: int, whole: bool):
+    """The instruction that is spelled in front, or the Fault."""
     try:
         spelling = read_spelling(code, start, whole)
     except Stop as stop:
         return stop.fault
-    insn = Insn(spelling.length, *operation(spelling))
-    KNOWN[whole].add(code[start : start + insn.length], insn)
-    return insn
+    return Insn(spelling.length, *operation(spelling))
+
+
+def emulated(code: bytes, start: int) -> Optional[Insn]:
+    """The instruction in front that a hypervisor emulates: a plain one, by its operation, with what stands before it."""
+    before = code[start : start + 5]
+    if before not in EMULATED:
+        return None
+    found = spelled(code[start + len(before) : start + LONGEST], 0, True)
+    plain = isinstance(found, Insn) and found.op == "Plain"
+    return found._replace(length=len(before) + found.length) if plain else None
 
 
 def written(s: Spelling) -> set[int]:
@@ -299,7 +319,7 @@ ONE_BYTE_OPS = {
     0x68: "Push", 0x6A: "Push", 0x9C: "Push", 0x9D: "Popf",
 }  # fmt: skip
 TWO_BYTE_OPS = {
-    0x0B: "Ud2", 0xB9: "Ud2", 0xFF: "Ud2", 0x1F: "Nop", 0x05: "Switch", 0x07: "Switch", 0x34: "Switch", 0x35: "Switch",
+    0x0B: "Ud2", 0xB9: "Ud2", 0xFF: "Ud2", 0x1F: "Nop", 0x05: "Switch", 0x07: "Switch", 0x34: "Switch", 0x35: "Switch", 0xAA: "Switch",
     0xA0: "Push", 0xA8: "Push", 0xA1: "Pop", 0xA9: "Pop",
 }  # fmt: skip
 
@@ -330,9 +350,18 @@ def flow_operation(s: Spelling) -> Optional[tuple]:
             return "Jcc", s.immediate, True
         if s.opcode == 0x1E and s.modrm in (0xFA, 0xFB):
             return ("Endbr",)
-        if s.opcode == 0x01 and s.modrm in (0xCA, 0xCB):
-            return ("Clac",) if s.modrm == 0xCA else ("Stac",)
+        if s.opcode == 0x01:
+            return system_operation(s)
     return None
+
+
+def system_operation(s: Spelling) -> Optional[tuple]:
+    """Of `0F 01`: STAC and CLAC, and what goes on elsewhere: ENCLU, with F3 or F2 ERETU and ERETS, with F3 UIRET."""
+    if s.modrm == 0xCB:
+        return ("Stac",)
+    if s.modrm == 0xCA:
+        return ("Switch",) if s.prefixes.rep or s.prefixes.repne else ("Clac",)
+    return ("Switch",) if s.modrm == 0xD7 or s.modrm == 0xEC and s.prefixes.rep else None
 
 
 def table_field(s: Spelling) -> Optional[int]:

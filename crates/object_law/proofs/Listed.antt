@@ -5,27 +5,12 @@ use Rattle.std.proofs.lemmas.Bool.{eqb-true}
 use Rattle.std.proofs.lemmas.List.{length-append}
 use Rattle.operation_defs.specs.declared.insn.Insn.{Insn}
 use Rattle.x86_map.specs.declared.map.Map.{Map}
-use Rattle.x86_decode.specs.Decoding.{Outcome, StandsInFront, decoded}
-use Rattle.x86_decode.specs.Spelling.{Opcode, Parts, behind_vector, bytes_of, one_byte, opcode_bytes, operand_bytes, optional, three_byte, three_byte_3A, two_byte}
+use Rattle.x86_decode.specs.Decoding.{Outcome, decoded}
 use Rattle.x86_decode.specs.declared.DecodeFault.{DecodeFault}
-use Rattle.x86_decode.proofs.Decided.{outcome}
+use Rattle.x86_decode.proofs.Decided.{lengths, outcome}
 use Rattle.x86_decode.proofs.Languages.{IsBytes}
 use Rattle.x86_text.specs.Code.{code_from, insn_listed, with_rest}
 use Rattle.table_law.proofs.Lists.{some_is}
-
-some_opcode : (o : Opcode) → 1 ≤ length (opcode_bytes o)
-some_opcode (one_byte b) = omega arith
-some_opcode (two_byte b) = omega arith
-some_opcode (three_byte b) = omega arith
-some_opcode (three_byte_3A b) = omega arith
-some_opcode (behind_vector v b) = omega arith
-
-some_bytes : (parts : Parts) → 1 ≤ length (bytes_of parts)
-some_bytes parts =
-    let one = length-append parts.legacy (optional parts.rex ++ (opcode_bytes parts.opcode ++ operand_bytes parts.operands)) in
-    let two = length-append (optional parts.rex) (opcode_bytes parts.opcode ++ operand_bytes parts.operands) in
-    let three = length-append (opcode_bytes parts.opcode) (operand_bytes parts.operands) in
-    omega (arith, one, two, three, some_opcode parts.opcode)
 
 -- a decoded instruction has a byte, and no more than there are
 pub record HasLength (bytes : List ℕ) (insn : Insn) : Type 0 where
@@ -34,11 +19,8 @@ pub record HasLength (bytes : List ℕ) (insn : Insn) : Type 0 where
 
 pub decoded_len : (map : Map) (bytes : List ℕ) (insn : Insn) → IsBytes bytes → decoded map bytes ≡ Ok insn → HasLength bytes insn
 decoded_len map bytes insn are is =
-    let stands : StandsInFront map bytes insn = subst (Outcome map bytes) is (outcome map bytes are) in
-    let s = stands.1 in
-    let own : insn.len ≡ length (bytes_of s.parts) = s.len ∙ ap length s.in_order in
-    let front : length (take insn.len bytes) ≡ min insn.len (length bytes) = length-take insn.len bytes in
-    record { some = omega (arith, own, some_bytes s.parts); within = omega (arith, s.len, front) }
+    let its = lengths map bytes (Ok insn) (subst (Outcome map bytes) is (outcome map bytes are)) in
+    record { some = its.0; within = its.2 }
 
 -- a listed instruction lies behind those that were passed by, has a byte, and ends within the bytes
 pub record LiesIn (skip off : ℕ) (bytes : List ℕ) (at : ℕ) (insn : Insn) : Type 0 where

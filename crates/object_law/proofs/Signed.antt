@@ -1,5 +1,5 @@
 -- The numbers in decoded instructions have 64 bits.
-use Rattle.std.proofs.Common.{◌≡◌, ℕ, zero, suc, ◌<◌, ◌^◌, Bool, true, false, not, ◌&&◌, ◌||◌, cond, List, [], ◌∷◌, ◌++◌, length, take, sym, arith, subst, pos, negsuc, ℤ}
+use Rattle.std.proofs.Common.{◌≡◌, ℕ, zero, suc, ◌<◌, ◌^◌, Bool, true, false, not, ◌&&◌, ◌||◌, cond, List, [], ◌∷◌, ◌++◌, length, take, ap, sym, ◌∙◌, arith, subst, pos, negsuc, ℤ}
 use Rattle.std.specs.Prelude.{FitsSigned, Ok, neg_ℤ, slice_index, ◌==◌}
 use Rattle.std.specs.Int.{w8, w32, w64, cast_signed}
 use Rattle.std.proofs.Math.Facts.{sfits_lit, sfits_to_z, sfits_widen}
@@ -12,13 +12,13 @@ use Rattle.x86_decode.specs.declared.action.Action.{Action}
 use Rattle.x86_decode.specs.declared.action.Action.TheVariants as actions
 use Rattle.x86_decode.specs.declared.fields.Fields.{Fields}
 use Rattle.x86_decode.specs.Action.{action_of}
-use Rattle.x86_decode.specs.Decoding.{Outcome, StandsInFront, decoded}
+use Rattle.x86_decode.specs.Decoding.{Outcome, StandsInFront, decoded, emulated, spelled}
 use Rattle.x86_decode.specs.Fields.{digit, is_at_rbp, is_at_rsp, is_register, modrm, opcode_register, reg_register, rm_register, signed, writes}
 use Rattle.x86_decode.specs.Operation.{address_loaded, arithmetic, copied, group_5, group_7, group_11, jump_table, loaded, operation, operation_by, pop_operand, popped, push_operand, pushed, stored, subtracted, subtracted_by, subtracted_from, written}
 use Rattle.x86_decode.specs.Spelling.{Spells, fields_in, opcode_bytes, optional}
 use Rattle.x86_decode.proofs.Decided.{outcome}
 use Rattle.x86_map.specs.declared.map.Map.{Map}
-use Rattle.x86_map.specs.Prefixes.{rex_b, rex_w}
+use Rattle.x86_map.specs.Prefixes.{rex_b, rex_w, under_F2, under_F3}
 use Rattle.x86_decode.proofs.Languages.{IsBytes}
 
 byte_at : (xs : List ℕ) (k : ℕ) → IsBytes xs → slice_index xs k < 256
@@ -147,7 +147,11 @@ five_fits f =
 
 seven_fits : (f : Fields) → HasSignedNumber (group_7 f)
 unfolding group_7
-seven_fits f = either (modrm f == 0xCB) ops.Stac (cond (modrm f == 0xCA) ops.Clac (written f)) tt (either (modrm f == 0xCA) ops.Clac (written f) tt (written_fits f))
+seven_fits f =
+    let entered = under_F3 f.prefixes || under_F2 f.prefixes in
+    let left = (modrm f == 0xD7) || ((modrm f == 0xEC) && under_F3 f.prefixes) in
+    either (modrm f == 0xCB) ops.Stac (cond (modrm f == 0xCA) (cond entered ops.Switch ops.Clac) (cond left ops.Switch (written f))) tt
+    (either (modrm f == 0xCA) (cond entered ops.Switch ops.Clac) (cond left ops.Switch (written f)) (either entered ops.Switch ops.Clac tt tt) (either left ops.Switch (written f) tt (written_fits f)))
 
 eleven_fits : (f : Fields) → HasSignedNumber (group_11 f)
 unfolding group_11
@@ -205,10 +209,14 @@ operands_fit map bytes insn s =
     let numbers = bytes_parts operands.displacement operands.immediate behind_sib in
     record { displacement = signed_fits operands.displacement numbers.0; immediate = signed_fits operands.immediate numbers.1 }
 
+spelled_fits : (map : Map) (bytes : List ℕ) (insn : Insn) → Spells map bytes insn → HasSignedNumber insn.op
+unfolding operation
+spelled_fits map bytes insn s = subst HasSignedNumber (sym s.op) (action_fits (action_of (fields_in map s.parts s.shape).number (fields_in map s.parts s.shape).opcode) (fields_in map s.parts s.shape) (operands_fit map bytes insn s))
+
+standing_fits : (map : Map) (bytes : List ℕ) (insn : Insn) → StandsInFront map bytes insn → HasSignedNumber insn.op
+standing_fits map bytes insn (spelled s alone) = spelled_fits map (take insn.len bytes) insn s.1
+standing_fits map bytes insn (emulated e) = subst HasSignedNumber (sym (ap (λ (i : Insn). i.op) e.is ∙ e.plain)) tt
+
 -- a decoded instruction's number fits
 pub decoded_fits : (map : Map) (bytes : List ℕ) (insn : Insn) → IsBytes bytes → decoded map bytes ≡ Ok insn → HasSignedNumber insn.op
-unfolding operation
-decoded_fits map bytes insn are is =
-    let stands : StandsInFront map bytes insn = subst (Outcome map bytes) is (outcome map bytes are) in
-    let s = stands.1 in
-    subst HasSignedNumber (sym s.op) (action_fits (action_of (fields_in map s.parts s.shape).number (fields_in map s.parts s.shape).opcode) (fields_in map s.parts s.shape) (operands_fit map (take insn.len bytes) insn s))
+decoded_fits map bytes insn are is = standing_fits map bytes insn (subst (Outcome map bytes) is (outcome map bytes are))
