@@ -34,8 +34,8 @@ def run_of_nops(world, body: Body, frame: Frame) -> None:
                 inner.append(asm.here(sec))
         elif piece == "b":
             pieces.append(2)
-            at = body.emit(rng.choice(("7500", "7400", "7f00")))
-            asm.distances.append((sec, at + 1, 1, rng.choice((inner[0], rng.choice(inner)))))
+            body.emit(rng.choice(("7500", "7400", "7f00")))
+            asm.distances.append((sec, asm.end(sec) - 1, 1, rng.choice((inner[0], rng.choice(inner)))))
         else:
             pieces.append("9c58" if piece == "p" else 2)
             body.emit("9c58" if piece == "p" else "6690")
@@ -54,18 +54,16 @@ def run_of_nops(world, body: Body, frame: Frame) -> None:
 
 def fill_piece(world, code: int, piece) -> None:
     """What stands in the place of so many no-ops: others, a push and its pop, or clac."""
-    rng = world.rng
     if not isinstance(piece, int):
         world.asm.emit(code, piece)
         return
-    inside, size = rng.choice((("", 0), ("9c58", 2), ("0f01ca", 3)))
-    before = rng.randint(0, piece - size) if piece > size else 0
-    world.fill(code, before if piece >= size else piece)
-    if inside and piece >= size:
+    inside = world.rng.choice([inside for inside in ("", "9c58", "0f01ca") if len(inside) <= 2 * piece])
+    rest = piece - len(inside) // 2
+    before = world.rng.randint(0, rest)
+    world.fill(code, before)
+    if inside:
         world.asm.emit(code, inside)
-        world.fill(code, piece - before - size)
-    elif piece >= size:
-        world.fill(code, piece - before)
+    world.fill(code, rest - before)
 
 
 def hinted_site(world, body: Body, frame: Frame) -> None:
@@ -234,7 +232,8 @@ def odd_label(world, body: Body, start: Label, is_loose: bool) -> None:
     size = asm.end(start.sec) - start.off
     odd = rng.random() < 0.15
     name = rng.choice((*LOOSE, *SWITCHING, "f0", "f1") if odd or not is_loose else LOOSE[1:])
-    asm.define(name, start, max(0, size - rng.choice((0, 2, size))) if odd else size, rng.choice((GLOBAL, LOCAL)), rng.choice((NOTYPE, OBJECT)) if odd else NOTYPE)
+    size = max(0, size - rng.choice((0, 2, size))) if odd else size
+    asm.define(name, start, size, rng.choice((GLOBAL, LOCAL)), rng.choice((NOTYPE, OBJECT)) if odd else NOTYPE)
 
 
 def name_by_hand(rng: random.Random, kind: str, name: str) -> str:

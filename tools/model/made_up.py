@@ -78,12 +78,13 @@ class Case(NamedTuple):
 
 
 def worked_cases():
-    """The worked objects with their options, and the objects of single features with no option and with all."""
+    """The worked objects with their options, and the objects of single features with no option, with all, and with all that ask for rules."""
     for what, data, given, _ in WORKED:
         yield Case(what, data, [f"--{name}" for name in given if name != "names"], given.get("names"), by_hand=True)
     for what, sketch in FEATURES.items():
         yield Case(what, sketch.object(), [], None, by_hand=True)
         yield Case(what, sketch.object(), [f"--{name}" for name in OPTIONS], None)
+        yield Case(what, sketch.object(), [f"--{name}" for name in OPTIONS if name not in TELLING + ("module",)], None)
 
 
 def turn_of(number: int) -> tuple[list[str], Optional[bytes]]:
