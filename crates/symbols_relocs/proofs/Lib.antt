@@ -14,3 +14,5 @@ mod Counted
 mod Spans
 mod BlockCounts
 mod Ranges
+mod ExtentOrder
+mod Naming

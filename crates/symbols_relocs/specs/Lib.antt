@@ -6,9 +6,14 @@ pub mod Functions
 pub mod Parts
 pub mod Targets
 pub mod Displacements
+pub mod BranchNames
+pub mod NamedCode
+pub mod Covers
 pub mod Lists
 pub mod Names
 pub mod Faults
 pub mod FaultText
 pub mod Counts
 pub mod Spans
+pub mod Extents
+pub mod CodeNames

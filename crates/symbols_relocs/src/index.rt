@@ -10,6 +10,7 @@ ghost use Rattle.symbols_relocs.specs.Functions.{first_bad, function_at as funct
 ghost use Rattle.symbols_relocs.specs.Lists.{AreFunctions, HaveParents, IsIndexOfSymbol};
 ghost use Rattle.symbols_relocs.specs.Parts.{owner_at as owner_symbol_at};
 ghost use Rattle.symbols_relocs.specs.Spans.{place_at};
+ghost use Rattle.symbols_relocs.specs.BranchNames.{branch_name as branch_name_of, named_symbol as named_symbol_of};
 ghost use Rattle.symbols_relocs.specs.Targets.{branch_target as branch_target_of, jump_target as jump_target_of};
 
 use crate::RelocIndex;
@@ -23,8 +24,8 @@ use crate::outer::{find_holder, link_outer};
 use crate::parents::with_parents;
 use crate::span::{Span, find_span};
 use crate::symbols::list_symbols;
-use crate::target::{Target, field_target};
-use elf_objects::{Object, Reloc};
+use crate::target::{Target, field_target, is_branch_kind};
+use elf_objects::{Object, Reloc, STB_GLOBAL, STB_WEAK};
 use operation_defs::Insn;
 use ot_base::{NoMemory, Place};
 use std::alloc::Global;
@@ -207,6 +208,19 @@ impl<'o, 'a> Index<'o, 'a> {
         }
     }
 
+    /// The symbol by which a direct call or branch names its target: the symbol of the relocation on its 32-bit displacement, where that
+    /// is a GLOBAL or WEAK one and the relocation is one of a branch, with the addend -4.
+    pub fn branch_name(&self, place: Place, insn: Insn) -> Option<u32>
+        requires { place.off + insn.len < 2 ^ 64 }
+        ensures { result ≡ branch_name_of self.now.elf place insn }
+    {
+        let displacement = displacement_of(insn.op)?;
+        if !displacement.wide {
+            return None;
+        }
+        named_symbol(self.object, self.reloc_at(field_of(place, insn.len, true))?)
+    }
+
     /// The target of a call or branch with a displacement.
     #[inline(always)]
     fn jump_target(&self, place: Place, len: u8, displacement: Displacement) -> Target
@@ -230,6 +244,21 @@ impl<'o, 'a> Index<'o, 'a> {
     {
         let reloc = self.reloc_at(field_of(place, len, displacement.wide));
         field_target(self.object, place, len, displacement, reloc.as_ref())
+    }
+}
+
+/// The symbol of a relocation, where it names the place of a GLOBAL or WEAK symbol itself.
+fn named_symbol(object: &Object<'_>, reloc: Reloc) -> Option<u32>
+    ensures { result ≡ named_symbol_of object.now reloc }
+{
+    if !is_branch_kind(reloc.kind) || reloc.addend != -4 || reloc.sym >= object.symbols() {
+        return None;
+    }
+    let bind = object.symbol(reloc.sym).bind;
+    if bind == STB_GLOBAL || bind == STB_WEAK {
+        Some(reloc.sym)
+    } else {
+        None
     }
 }
 

@@ -8,7 +8,9 @@
 //! of the relocation on its displacement, where one stands there.
 #![tactic(auto)]
 
+mod code_names;
 mod displacement;
+mod extents;
 mod fault;
 mod function;
 mod index;
@@ -23,16 +25,20 @@ mod part;
 mod pointers;
 mod reloc_index;
 mod relocated;
+mod returning;
 mod span;
 mod strings;
 mod symbols;
 mod target;
 
+pub use code_names::{CodeNames, covered_code, is_linked, named_code};
+pub use extents::{Extent, Extents};
 pub use fault::IndexFault;
 pub use function::Function;
 pub use index::Index;
 pub use pointers::{is_pointer, named_place};
 pub use reloc_index::RelocIndex;
 pub use relocated::is_relocated;
+pub use returning::{NamedStart, ReturningCode};
 pub use span::Span;
 pub use target::Target;

@@ -15,7 +15,7 @@ use ot_base::Place;
 use std::alloc::Global;
 
 /// Whether a symbol with this home is defined in a text section.
-fn is_text_defined(object: &Object<'_>, home: Home) -> bool
+pub(crate) fn is_text_defined(object: &Object<'_>, home: Home) -> bool
     ensures { result ≡ is_text_home object.now home }
 {
     match home {
@@ -33,7 +33,7 @@ fn is_code(object: &Object<'_>, k: u32, symbol: &Symbol) -> bool
 }
 
 /// The place of a symbol; in section 0, which is none, where it is defined in no section.
-fn place_of(symbol: &Symbol) -> Place
+pub(crate) fn place_of(symbol: &Symbol) -> Place
     ensures { result ≡ record { sec = home_section symbol.now.home; off = symbol.now.value } }
 {
     let sec = match symbol.home {

@@ -45,7 +45,7 @@ const RETURN_THUNK: &[u8] = b"__x86_return_thunk";
 const THUNK_START: &[u8] = b"__x";
 
 /// Whether a relocation of this type is one of a branch.
-fn is_branch_kind(kind: u32) -> bool
+pub(crate) fn is_branch_kind(kind: u32) -> bool
     ensures { result ≡ is_branch_type kind }
 {
     kind == R_X86_64_PC32 || kind == R_X86_64_PLT32
