@@ -1,4 +1,5 @@
 pub mod KeptLemmas
+pub mod EndLemmas
 pub mod WorkedRun
 pub mod WorkedSteps
 pub mod WorkedWrecks
@@ -7,3 +8,6 @@ pub mod WorkedWays
 pub mod WorkedWarnings
 pub mod WorkedAccessOff
 pub mod WorkedAccess
+pub mod WorkedSites
+pub mod WorkedLoose
+pub mod WorkedHoles

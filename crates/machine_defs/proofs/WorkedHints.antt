@@ -1,9 +1,13 @@
 -- Runs from hints, over a stack of a struct pt_regs.
-use Rattle.std.proofs.Common.{ℕ, zero, suc, ◌<◌, ◌≤◌, false, true, List, [], ◌∷◌, Some, None, pos, refl, inl, inr, sym, arith, lit<, lit≤}
+use Rattle.std.proofs.Common.{ℕ, zero, suc, ◌<◌, ◌≤◌, false, true, List, [], ◌∷◌, Some, None, pos, refl, inl, inr, Contains, ◌≡◌, sym, arith, lit<, lit≤}
 use Rattle.machine_defs.specs.declared.flow.EdgeKind.TheVariants.{Next}
 use Rattle.state_defs.specs.declared.state.BpHome.TheVariants.{Same}
 use Rattle.state_defs.specs.declared.state.Depth.TheVariants.{Known}
 use Rattle.state_defs.specs.declared.state.EndKind.TheVariants.{EndOfStack}
+use Rattle.state_defs.specs.declared.state.State.{State}
+use Rattle.state_defs.specs.declared.state.State.TheVariants.{Live, Regs, Ended}
+use Rattle.state_defs.specs.declared.state.HintState.TheVariants.{Set}
+use Rattle.machine_defs.specs.Program.{entry_points}
 use Rattle.state_defs.specs.Region.{Holds}
 use Rattle.state_defs.specs.Frame.{FullAt, Frame, Protected, AreKept}
 use Rattle.state_defs.specs.Effect.{IsInStack}
@@ -25,8 +29,8 @@ high_outside : IsOutside hinted base 18446744073709551615
 high_outside text (zero, below, is) = inr (rw (sym is) (lit≤ tt))
 high_outside text (suc k, below, is) = absurd (omega (arith, below))
 
-may_start : (q : ℕ) → q < 5 → MayStart hinted q
-may_start q below = record { plain_point = q; point = below; plain = refl; outside = λ site c. absurd (let none : c.0 < 0 = c.1 in omega arith); arrives = inl refl; checked = refl }
+may_start : (q : ℕ) (state : State) → q < 5 → hinted.hint q ≡ Some (Set state) → Contains (entry_points hinted q) q → MayStart hinted state q
+may_start q state below hint arrives = record { plain_point = q; point = below; plain = refl; checked = refl; outside = λ site c. absurd (let none : c.0 < 0 = c.1 in omega arith); hinted = hint; arrives = arrives; counts = hint }
 
 slot : ℕ → ℕ → Protected
 slot at value = record { at = at; value = value }
@@ -42,7 +46,7 @@ was_called = record { ra = 0; cfa = 0x80A8; bp = 0; shadow = refl; outside = hig
 from_call : Run hinted base (At (at_hint 0 0x80A0 called None None))
 from_call =
     started (at_hint 0 0x80A0 called None None)
-    (at_call_hint (at_hint 0 0x80A0 called None None) (at_hint 0 0x80A0 called None None) (Known (pos 8)) None Same (may_start 0 (lit< tt)) refl was_called
+    (at_call_hint (at_hint 0 0x80A0 called None None) (at_hint 0 0x80A0 called None None) (Known (pos 8)) None Same (may_start 0 (Live (Known (pos 8)) None Same) (lit< tt) refl (0, lit< tt, refl)) was_called
     (record { ended = refl; mark = refl; hinted = at_hint 0 0x80A0 called None None; lands = (refl, record { depth = refl; fp = tt; bp = (refl, refl) }, kept); start = refl }))
     (in_registers 0x80A0 called (lit≤ tt) (lit≤ tt))
 
@@ -77,7 +81,7 @@ from_regs : Run hinted base (At (at_hint 3 0x8000 interrupted None None))
 unfolding interrupted
 from_regs =
     started (at_hint 3 0x8000 interrupted None None)
-    (at_regs_hint (at_hint 3 0x8000 interrupted None None) (at_hint 3 0x8000 interrupted None None) true (pos 0) (may_start 3 (lit< tt)) refl
+    (at_regs_hint (at_hint 3 0x8000 interrupted None None) (at_hint 3 0x8000 interrupted None None) true (pos 0) (may_start 3 (Regs true (pos 0)) (lit< tt) refl (0, lit< tt, refl))
     (record { ra = 0; cfa = 0x80A8; bp = 0; slot = FullAt 0x8000; of_interrupt = refl; shadow = refl; outside = low_outside; below_hi = lit≤ tt })
     (record { ended = refl; mark = refl; hinted = at_hint 3 0x8000 interrupted None None; lands = (refl, refl, record { at = 0x8000; slot = refl; depth = refl; floor = omega arith; below = lit≤ tt }, registers_kept); start = refl }))
     (in_registers 0x8000 interrupted (lit≤ tt) (lit≤ tt))
@@ -85,7 +89,7 @@ from_regs =
 from_end : Run hinted base (At (at_hint 4 0x80A0 [] (Some EndOfStack) None))
 from_end =
     started (at_hint 4 0x80A0 [] (Some EndOfStack) None)
-    (at_end_hint (at_hint 4 0x80A0 [] None None) (at_hint 4 0x80A0 [] (Some EndOfStack) None) EndOfStack (may_start 4 (lit< tt)) refl refl
+    (at_end_hint (at_hint 4 0x80A0 [] None None) (at_hint 4 0x80A0 [] (Some EndOfStack) None) EndOfStack (may_start 4 (Ended EndOfStack) (lit< tt) refl (0, lit< tt, refl)) refl
     (record { ended = refl; mark = refl; hinted = at_hint 4 0x80A0 [] (Some EndOfStack) None; lands = refl; start = refl }))
     (in_registers 0x80A0 [] (lit≤ tt) (lit≤ tt))
 

@@ -26,7 +26,7 @@ pub record IsProgram (p : Program) : Type 0 where
   pub followers : (q r : ℕ) → IsPoint p q → Contains (p.after q) r → IsPoint p r
   pub saves : (q r : ℕ) → IsPoint p q → p.save_of q ≡ Some r → IsPoint p r
   -- control that comes to a plain point stands in code of its owner
-  pub arrives_owned : (q r : ℕ) → IsPoint p q → p.variant q ≡ 0 → Contains (entry_points p q) r → p.owner r ≡ p.owner q
+  pub arrives_owned : (q r : ℕ) → IsPoint p q → p.variant q ≡ 0 → Contains (entry_points p q) r → (p.owner r ≡ p.owner q) × (p.unchecked r ≡ p.unchecked q)
   -- an edge from a checked point leads to a checked one, unless it is a Next into code of another owner
   pub checked : (q : ℕ) (e : Edge) → IsPoint p q → p.unchecked q ≡ false → Contains (p.goes q) e → (e.kind ≡ Next → p.owner e.to ≡ p.owner q) → p.unchecked e.to ≡ false
   -- points without owner are checked

@@ -16,6 +16,9 @@ pub mod WorkedWrecks
 pub mod WorkedHints
 pub mod WorkedWays
 pub mod WorkedWarnings
+pub mod WorkedSites
+pub mod WorkedLoose
+pub mod WorkedHoles
 pub mod Allowances
 pub mod Access
 pub mod AccessRules

@@ -1,8 +1,9 @@
 -- Where runs of the stack machine start, and what a run is.
-use Rattle.std.specs.Prelude.{◌≡◌, ℕ, ◌≤◌, ◌⊎◌, Bool, true, false, [], ◌∷◌, Option, Some, None, Contains, ℤ}
+use Rattle.std.specs.Prelude.{◌≡◌, ℕ, ◌≤◌, Bool, true, false, [], ◌∷◌, Option, Some, None, Contains, ℤ}
 use Rattle.state_defs.specs.declared.state.Depth.{Depth}
 use Rattle.state_defs.specs.declared.state.BpHome.{BpHome}
 use Rattle.state_defs.specs.declared.state.EndKind.{EndKind}
+use Rattle.state_defs.specs.declared.state.State.{State}
 use Rattle.state_defs.specs.declared.state.State.TheVariants.{Live, Ended, Regs}
 use Rattle.state_defs.specs.declared.state.HintState.TheVariants.{Set}
 use Rattle.state_defs.specs.Address.{up, down}
@@ -45,15 +46,17 @@ pub record IsAtEntry (core : Core) (f : Frame) : Type 0 where
   pub cfa : f.cfa ≡ up core.rsp 8
   pub bp : f.bp ≡ core.rbp
 
--- A point of checked code at which a run may start by the hint of a plain one: at that one, which is in no site past its start,
--- or, where a site starts there, at the first point of a replacement for which the hint counts.
-pub record MayStart (p : Program) (r : ℕ) : Type 0 where
+-- A run may start at this point by a hint that sets this state. It is the hint of a plain point of checked code that is in no site
+-- past its start; control that comes there may stand at the point; and the hint counts at that one.
+pub record MayStart (p : Program) (state : State) (r : ℕ) : Type 0 where
   pub plain_point : ℕ
   pub point : IsPoint p plain_point
   pub plain : p.variant plain_point ≡ 0
+  pub checked : p.unchecked plain_point ≡ false
   pub outside : (site : Site) → Contains p.sites site → in_site site (p.place plain_point) ≡ true → site.start ≡ p.place plain_point
-  pub arrives : (r ≡ plain_point) ⊎ (Contains (entry_points p plain_point) r × (p.own_hint r ≡ false))
-  pub checked : p.unchecked r ≡ false
+  pub hinted : p.hint plain_point ≡ Some (Set state)
+  pub arrives : Contains (entry_points p plain_point) r
+  pub counts : p.hint r ≡ Some (Set state)
 
 -- The start s is what the hint at its point, if there is one, makes of t, where nothing has ended the
 -- stack; it has no mark.
@@ -69,9 +72,9 @@ pub record StartsFrom (p : Program) (t s : Standing) : Type 0 where
 -- that ends the stack, with no frame.
 pub data Start (p : Program) (bases : Bases) : Standing → Type 0 where
   at_entry : (t s : Standing) (f : Frame) (entry : ℕ) → Contains p.entries entry → Contains (entry_points p entry) t.point → WasCalled p bases t.core → IsAtEntry t.core f → StartsFrom p t s → Start p bases s
-  at_call_hint : (t s : Standing) (depth : Depth) (fp : Option ℤ) (bp : BpHome) → MayStart p t.point → p.hint t.point ≡ Some (Set (Live depth fp bp)) → WasCalled p bases t.core → StartsFrom p t s → Start p bases s
-  at_regs_hint : (t s : Standing) (full : Bool) (depth : ℤ) → MayStart p t.point → p.hint t.point ≡ Some (Set (Regs full depth)) → WasInterrupted p bases t.core → StartsFrom p t s → Start p bases s
-  at_end_hint : (t s : Standing) (kind : EndKind) → MayStart p t.point → p.hint t.point ≡ Some (Set (Ended kind)) → t.core.shadow ≡ [] → StartsFrom p t s → Start p bases s
+  at_call_hint : (t s : Standing) (depth : Depth) (fp : Option ℤ) (bp : BpHome) → MayStart p (Live depth fp bp) t.point → WasCalled p bases t.core → StartsFrom p t s → Start p bases s
+  at_regs_hint : (t s : Standing) (full : Bool) (depth : ℤ) → MayStart p (Regs full depth) t.point → WasInterrupted p bases t.core → StartsFrom p t s → Start p bases s
+  at_end_hint : (t s : Standing) (kind : EndKind) → MayStart p (Ended kind) t.point → t.core.shadow ≡ [] → StartsFrom p t s → Start p bases s
 
 -- rsp stays in the stack
 abbrev pub StaysInStack : Machine → Type 0

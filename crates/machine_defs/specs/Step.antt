@@ -1,7 +1,7 @@
 -- The steps of the stack machine. Where more than one line fits, each is a possible step: an
 -- alternatives site may be in any of its variants, a static branch or an exception entry may be taken
 -- or not, an indirect branch may go to any of its targets, and an interrupt may come anywhere.
-use Rattle.std.specs.Prelude.{◌≡◌, ◌≢◌, ℕ, ◌+◌, ◌-◌, ◌%◌, ◌⊎◌, ◌&&◌, ◌||◌, Bool, true, false, not, List, [], ◌∷◌, Some, None, is_some, Contains, IsTrue, pos, if◌then◌else◌}
+use Rattle.std.specs.Prelude.{Option, ◌≡◌, ◌≢◌, ℕ, ◌+◌, ◌-◌, ◌%◌, ◌⊎◌, ◌&&◌, ◌||◌, Bool, true, false, not, List, [], ◌∷◌, Some, None, is_some, Contains, IsTrue, pos, if◌then◌else◌}
 use Rattle.operation_defs.specs.declared.op.Op.{Op}
 use Rattle.operation_defs.specs.declared.op.Op.TheVariants.{SubSp, SpReg, SpOther, RetImm, Iret}
 use Rattle.machine_defs.specs.declared.flow.EdgeKind.{EdgeKind}
@@ -9,6 +9,7 @@ use Rattle.machine_defs.specs.declared.flow.EdgeKind.TheVariants.{Fixup, Sibling
 use Rattle.machine_defs.specs.declared.flow.Role.{Role}
 use Rattle.machine_defs.specs.declared.flow.Role.TheVariants.{CallIn, CallEither, CallAny, Return, JumpOut, JumpAny}
 use Rattle.state_defs.specs.declared.state.EndKind.{EndKind}
+use Rattle.state_defs.specs.declared.state.State.{State}
 use Rattle.state_defs.specs.declared.state.State.TheVariants.{Ended, Regs}
 use Rattle.state_defs.specs.declared.state.HintState.TheVariants.{Set}
 use Rattle.state_defs.specs.Address.{up, down}
@@ -17,7 +18,7 @@ use Rattle.state_defs.specs.Frame.{Unsaved, PartialAt, is_of_call, Frame, protec
 use Rattle.state_defs.specs.Effect.{Core, StoresOrdinarily, Effect}
 use Rattle.machine_defs.specs.Program.{Program, IsPoint, Site, in_site, entry_points, edge, is_local}
 use Rattle.machine_defs.specs.MayReturn.{is_listed}
-use Rattle.machine_defs.specs.Kept.{Kept}
+use Rattle.machine_defs.specs.Kept.{Kept, AreKeptStates}
 use Rattle.machine_defs.specs.Ways.{is_before_hint, may_call_out, may_leave}
 use Rattle.machine_defs.specs.Machine.{Bases, Standing, Machine, Wrecked, At, point_address, return_address}
 use Rattle.machine_defs.specs.Hint.{Lands}
@@ -46,6 +47,15 @@ pub data EndedBehind (p : Program) (s t : Standing) : Type 0 where
   is_firm : p.loose s.point ≡ false → t.ended ≡ s.ended → EndedBehind p s t
   is_lost : (kind : EndKind) → p.loose s.point ≡ true → Kept p t.point (Ended kind) → t.ended ≡ Some kind → EndedBehind p s t
   is_kept : p.loose s.point ≡ true → ((kind : EndKind) → Kept p t.point (Ended kind) → ⊥) → t.ended ≡ s.ended → EndedBehind p s t
+
+-- Where the kept states are told, there is always such an end of the stack, and one alone: no step is lost.
+abbrev pub EndIsTold : Type 0
+EndIsTold =
+    (p : Program) (states : ℕ → Option State) → AreKeptStates p states
+    → (s t : Standing)
+    → (ended : Option EndKind)
+    × EndedBehind p s (record t { ended = ended })
+    × ((other : Option EndKind) → EndedBehind p s (record t { ended = other }) → other ≡ ended)
 
 -- 1. An instruction goes on in its function, by an edge Next, Taken or Table, with its effect. A call doesn't: it has
 -- no effect of its own.

@@ -1,5 +1,6 @@
 -- Runs that start at hints, and that pass a SAVE and a RESTORE.
-use Rattle.std.specs.Prelude.{ℕ, false, true, List, [], ◌∷◌, ◌++◌, Option, Some, None, slice_index_or, replicate, pos}
+use Rattle.std.specs.Prelude.{ℕ, false, true, List, [], ◌∷◌, ◌++◌, Option, Some, None, slice_index_or, filter, replicate, pos}
+use Rattle.ot_base.specs.Places.{same_place}
 use Rattle.operation_defs.specs.declared.op.Op.TheVariants.{Nop}
 use Rattle.machine_defs.specs.declared.flow.EdgeKind.TheVariants.{Next}
 use Rattle.machine_defs.specs.declared.flow.Role.TheVariants.{Plain}
@@ -11,10 +12,10 @@ use Rattle.state_defs.specs.declared.state.State.TheVariants.{Live, Regs, Ended}
 use Rattle.state_defs.specs.declared.state.HintState.TheVariants.{Set, Save, Restore}
 use Rattle.state_defs.specs.Region.{Region}
 use Rattle.state_defs.specs.Frame.{Unsaved, FullAt, Frame, Mark}
-use Rattle.machine_defs.specs.Program.{Program, edge}
+use Rattle.machine_defs.specs.Program.{Program, below, edge}
 use Rattle.machine_defs.specs.Machine.{Standing, At}
 use Rattle.machine_defs.specs.Run.{outermost, Run}
-use Rattle.machine_defs.specs.Worked.{insn, framed}
+use Rattle.machine_defs.specs.Worked.{at, insn, framed}
 use Rattle.state_defs.specs.WorkedEffects.{word}
 use Rattle.machine_defs.specs.WorkedSteps.{base}
 
@@ -25,12 +26,15 @@ abbrev pub hinted : Program
 hinted = record framed {
   count = 5;
   insn = λ _. insn Nop 1;
+  place = at;
+  address = at;
   function = λ _. None;
   owner = λ _. None;
   hint = λ q. slice_index_or (Some (Set (Live (Known (pos 8)) None Same)) ∷ Some Save ∷ Some Restore ∷ Some (Set (Regs true (pos 0))) ∷ Some (Set (Ended EndOfStack)) ∷ []) q None;
   save_of = λ q. slice_index_or (None ∷ None ∷ Some 1 ∷ []) q None;
   goes = λ q. slice_index_or ((edge 1 Next ∷ []) ∷ (edge 2 Next ∷ []) ∷ []) q [];
   role = λ _. Plain;
+  arrive = λ wanted. filter (λ q. same_place (at q) wanted) (below 5);
   entries = [];
 }
 

@@ -2,6 +2,7 @@
 
 ghost use Rattle.machine_defs.specs.Kept.{KeptIsOne, KeptStays};
 ghost use Rattle.machine_defs.specs.WorkedAccess.{WarnsWhereAsked};
+ghost use Rattle.machine_defs.specs.WorkedHoles.{LeavesHoles};
 ghost use Rattle.machine_defs.specs.WorkedWarnings.{WarnsOfEach};
 
 /// A point keeps the state that it was first given.
@@ -22,4 +23,9 @@ pub fn worked_warnings()
 /// A warning for each reason that an option asks for.
 pub fn worked_access()
     ensures { WarnsWhereAsked }
+{}
+
+/// What is told of code that no symbol covers.
+pub fn worked_holes()
+    ensures { LeavesHoles }
 {}

@@ -1,10 +1,18 @@
 //! What holds of the definitions of this crate.
 
+ghost use Rattle.machine_defs.specs.Step.{EndIsTold};
 ghost use Rattle.machine_defs.specs.Worked.{HasWorkedFrames, HasWorkedRows, HasWorkedRun, HasWorkedStates};
 ghost use Rattle.machine_defs.specs.WorkedHints.{RunsFromHints};
+ghost use Rattle.machine_defs.specs.WorkedLoose.{LosesStack};
+ghost use Rattle.machine_defs.specs.WorkedSites.{HintsSites};
 ghost use Rattle.machine_defs.specs.WorkedSteps.{TakesEachStep};
 ghost use Rattle.machine_defs.specs.WorkedWays.{LeadsOn};
 ghost use Rattle.machine_defs.specs.WorkedWrecks.{WrecksEachWay};
+
+/// How the stack has ended behind an instruction is told wherever kept states are.
+pub fn end_is_told()
+    ensures { EndIsTold }
+{}
 
 /// The states of a function with a frame pointer.
 pub fn worked_states()
@@ -44,4 +52,14 @@ pub fn worked_hints()
 /// Which points may leave, be called, come back, and stand right before a hint.
 pub fn worked_ways()
     ensures { LeadsOn }
+{}
+
+/// A hint at a site's start counts for its replacement, as a gate and as a start.
+pub fn worked_sites()
+    ensures { HintsSites }
+{}
+
+/// Loose code loses the stack, and a call of it comes back.
+pub fn worked_loose()
+    ensures { LosesStack }
 {}

@@ -61,7 +61,7 @@ module _ (P : Protected → Type 0) where
   pub one : (x : Protected) → P x → All P (x ∷ [])
   one x h = All-cons P x [] h (All-nil P)
 
-  two : (x y : Protected) → P x → P y → All P (x ∷ y ∷ [])
+  pub two : (x y : Protected) → P x → P y → All P (x ∷ y ∷ [])
   two x y h k = All-cons P x (y ∷ []) h (one y k)
 
   pub three : (x y z : Protected) → P x → P y → P z → All P (x ∷ y ∷ z ∷ [])

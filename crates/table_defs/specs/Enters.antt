@@ -18,3 +18,6 @@ pub record EntersSites (p : Program) : Type 0 where
   pub entries : (entry q : ℕ) (site : Site)
       → Contains p.entries entry → Contains (entry_points p entry) q → Contains p.sites site → in_site site (p.address q) ≡ true
       → (start : ℕ) × IsSiteStart p site start × Contains (entry_points p entry) start
+  -- control that comes to a plain point may stand at it, and stands where it runs
+  pub arrivals : (q : ℕ) → IsPoint p q → p.variant q ≡ 0
+      → Contains (entry_points p q) q × ((r : ℕ) → Contains (entry_points p q) r → p.address r ≡ p.place q)
