@@ -93,6 +93,32 @@ fn instructions_by_number(rt: HostRuntime) -> Result<(), Fail> {
     Ok(())
 }
 
+/// A ud2, an emulated instruction and a return, which begin these bytes behind one another.
+const EMULATED: [u8; 10] = [0x0F, 0x0B, 0x0F, 0x0B, 0x78, 0x65, 0x6E, 0x0F, 0xA2, 0xC3];
+
+#[test]
+fn ud2_beside_emulated_instructions(rt: HostRuntime) -> Result<(), Fail> {
+    let mut body = Vec::new(rt.alloc());
+    for _ in 0..20 {
+        body.extend_from_slice(&EMULATED)?;
+    }
+    assert!(rt; body.len() == 200);
+    let text = Text::read(
+        rt.alloc(),
+        Map::Whole,
+        &body,
+        &mut InsnList::new(rt.alloc())?,
+    )?;
+    let offsets = text.offsets();
+    assert!(rt; offsets.len() == 60);
+    for i in 0..60usize {
+        let within = [0u32, 2, 9].get(i % 3).copied().unwrap_or(0);
+        let off = (i / 3) as u32 * 10 + within;
+        assert!(rt; offsets.get(i).copied() == Some(off), "{i}");
+    }
+    Ok(())
+}
+
 /// The bytes of the first instruction of a body, lent from it after its text is let go.
 fn first_bytes(alloc: Global, body: &[u8]) -> Result<Option<&[u8]>, TextFault>
     requires { length body.now ≤ 16_777_216 }
