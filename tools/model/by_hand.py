@@ -6,6 +6,7 @@ import random
 from assemble import Label
 from bodies import JCC, PLAIN, Body, Frame
 from elf import GLOBAL, LOCAL, NOTYPE, OBJECT, WEAK
+from uaccess import SMAP
 
 # What loses rsp or rbp, and loads of rsp that are a switch of tasks or look like one.
 LOSES = "488b27 4889c4 5c c9 5d 31ed 4883c470 4883e4f0 4829c4 488d642440 4883ec08".split()
@@ -97,8 +98,8 @@ def gate_in_a_site(world, body: Body) -> None:
     length = asm.end(body.sec) - start.off
     code = world.replacement()
     there = asm.here(code)
-    asm.emit(code, "0f01ca" if length == 3 else "90")
-    world.entry(start, length, there, asm.end(code) - there.off)
+    asm.emit(code, rng.choice(("0f01ca", "0f01ca", "0f01cb")) if length == 3 else "90")
+    world.entry(start, length, there, asm.end(code) - there.off, rng.choice((1, SMAP)))
     body.emit("58")
     body.emit("48cf")
 

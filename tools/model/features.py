@@ -315,6 +315,10 @@ FEATURES = {
         {".text": "0f01cb 740a 7509 0f8000000000 ffe0 c3 c3"}, [("f", 0, 15), ("g", 15, 1), ("rep_stos_alternative", 16, 1)], relocs=[to(9, "h")]
     ),
     "access_and_popf": f("9c 9d 0f01cb 9c 9d 0f01ca c3"),
+    "access_started_where_a_site_starts": Sketch(
+        {".text": "c3 909090 0f01ca c3 909090 c3", REPLACEMENTS: "0f01cb 0f01ca"}, [("f", 0, 1)],
+        alternatives=[alt(1, 3, 0, 3, 308), alt(8, 3, 0, 3, 308), alt(8, 3, 3, 3, 308)], hints=[hint(1, FUNC_HINT), hint(8, FUNC_HINT)],
+    ),  # fmt: skip
     "access_off_in_no_owner": Sketch({".text": "0f01ca 9d c3 0f01cb 9c 9d 0f01ca c3"}, [("f", 5, 9)], hints=[hint(0, CALL, 16)]),
     "access_off_in_a_part": Sketch({".text": "0f8400000000 c3", COLD: "0f01ca c3"}, [("f", 0, 7), ("f.cold", (COLD, 0), 4, LOCAL)], relocs=[to(2, (COLD, 0))]),
     "access_and_code_of_no_function": Sketch({".text": "0f01cb e800000000 0f01ca c3 c3"}, [("f", 0, 12), label("rep_movs_alternative", 12)], relocs=[to(4, "rep_movs_alternative")], hints=[hint(12, FUNC_HINT)]),
