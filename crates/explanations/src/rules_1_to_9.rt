@@ -149,8 +149,8 @@ Code that can't be followed, as where it leaves its stack for good, is listed
 as loose: a line `loose NAME` in a file that --names gives. It is checked, but
 where rule 7, 8, 9 or 11 would be told nothing is known of the stack, up to
 the next hint. Code that stores rsp of one task and loads that of another is
-listed by `switch NAME`: its load of rsp from memory is followed as one that
-this task comes back from, with rsp as it was and rbp another.
+listed by `switch NAME`: behind its load of rsp from memory it counts as this
+task again, with rsp as it was, and with another rbp, so rbp is pushed first.
 ",
     ),
     (
