@@ -1,5 +1,5 @@
 -- The edges of the points of an object.
-use Rattle.std.specs.Prelude.{ℕ, ◌&&◌, ◌||◌, not, Bool, true, false, List, [], ◌∷◌, ◌++◌, map, filter, flat_map, Option, if◌then◌else◌}
+use Rattle.std.specs.Prelude.{ℕ, ◌&&◌, ◌||◌, not, Bool, true, false, List, [], ◌∷◌, ◌++◌, map, filter, flat_map, Option, is_some, if◌then◌else◌}
 use Rattle.std.specs.List.{list_any}
 use Rattle.ot_base.specs.declared.place.Place.{Place}
 use Rattle.ot_base.specs.Places.{same_place}
@@ -26,7 +26,7 @@ use Rattle.flow_defs.specs.Sites.{is_into_site}
 use Rattle.flow_defs.specs.Arrival.{arrive, after, insn_of_object, is_dead_end, is_padding}
 use Rattle.flow_defs.specs.Targets.{destination_of}
 use Rattle.flow_defs.specs.Ways.{hop_way, jump_way, listed_way}
-use Rattle.flow_defs.specs.Roles.{table_of_point}
+use Rattle.flow_defs.specs.Roles.{returns_through, table_of_point}
 
 -- edges of a kind to points
 abbrev pub edges_to : EdgeKind → List ℕ → List Edge
@@ -93,8 +93,9 @@ branch_edges_by o point (Jcc rel wide) = jump_edges o point (destination_of o po
 branch_edges_by o point Hop = hop_edges o point (destination_of o point)
 branch_edges_by o point _ = []
 
+-- those of a branch; through code that returns for its caller control leaves, and has none
 abbrev pub branch_edges : Coded → Point → List Edge
-branch_edges o point = branch_edges_by o point (insn_of_object o point).op
+branch_edges o point = if is_some (returns_through o point) then [] else branch_edges_by o point (insn_of_object o point).op
 
 -- the edges of the static branches at a point, and of its exception entries
 abbrev pub listed_edges : Coded → EdgeKind → Point → List Place → List Edge

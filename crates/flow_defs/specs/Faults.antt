@@ -14,12 +14,7 @@ use Rattle.machine_defs.specs.Program.{Site}
 use Rattle.flow_defs.specs.declared.fault.FlowFault.{FlowFault}
 use Rattle.flow_defs.specs.declared.fault.FlowFault.TheVariants.{FuncStart, NotBoundary, StaticSite, NotCall, NotFunction, NoMemory}
 use Rattle.flow_defs.specs.Code.{texts_of}
-use Rattle.flow_defs.specs.Sites.{places_of, site_holding}
-
--- a place is in a site, past its start
-abbrev pub is_past_start : Place → Option Site → Bool
-is_past_start place None = false
-is_past_start place (Some site) = not (same_place site.start place)
+use Rattle.flow_defs.specs.Sites.{is_past_start, places_of, site_holding}
 
 -- a function can't start there: at no boundary, or inside a site
 abbrev pub is_no_start : Coded → Place → Bool

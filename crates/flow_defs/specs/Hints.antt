@@ -9,7 +9,7 @@ use Rattle.alternatives.specs.Points.{address_of_point}
 use Rattle.flow_defs.specs.Tables.{same_owner}
 use Rattle.flow_defs.specs.Code.{alternatives_of, points_of_object, number_of}
 use Rattle.flow_defs.specs.Owners.{owner_of_point}
-pub use Rattle.flow_defs.specs.Arrival.{hint_of}
+pub use Rattle.flow_defs.specs.Arrival.{hint_of, own_hint_of}
 
 abbrev pub is_save : Option HintState → Bool
 is_save (Some Save) = true

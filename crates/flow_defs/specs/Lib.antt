@@ -2,7 +2,9 @@ pub mod Coded
 pub mod Code
 pub mod Owners
 pub mod Sites
+pub mod Decoded
 pub mod Arrival
+pub mod Switching
 pub mod TableFields
 pub mod TableRegisters
 pub mod Tables

@@ -1,5 +1,5 @@
 -- What is wrong with where the points of an object go.
-use Rattle.std.specs.Prelude.{ℕ, ◌&&◌, ◌||◌, not, Bool, true, false, List, [], ◌∷◌, ◌++◌, Option, Some, None, is_none, filter, if◌then◌else◌}
+use Rattle.std.specs.Prelude.{ℕ, ◌&&◌, ◌||◌, not, Bool, true, false, List, [], ◌∷◌, ◌++◌, Option, Some, None, is_none, is_some, filter, if◌then◌else◌}
 use Rattle.std.specs.List.{list_any}
 use Rattle.ot_base.specs.declared.place.Place.{Place}
 use Rattle.alternatives.specs.Texts.{is_boundary}
@@ -21,7 +21,7 @@ use Rattle.flow_defs.specs.Sites.{is_into_site}
 use Rattle.flow_defs.specs.Arrival.{insn_of_object, is_at_end, is_padding}
 use Rattle.flow_defs.specs.Targets.{destination_of}
 use Rattle.flow_defs.specs.Ways.{hop_way, jump_way, listed_way, is_bad, is_along}
-use Rattle.flow_defs.specs.Roles.{is_called, table_of_point}
+use Rattle.flow_defs.specs.Roles.{gate_called, is_called, returns_through, table_of_point}
 use Rattle.flow_defs.specs.Edges.{fixups, goes_on, static_targets}
 
 -- a call goes to no place of the text, or to the return thunk
@@ -55,6 +55,10 @@ is_bad_by o point (Jcc rel wide) = is_bad_jump o point (destination_of o point)
 is_bad_by o point Hop = is_bad_hop o point (destination_of o point)
 is_bad_by o point _ = false
 
+-- so does a branch, unless it returns through code that returns for its caller
+abbrev pub is_bad_branch : Coded → Point → Bool
+is_bad_branch o point = is_none (returns_through o point) && is_bad_by o point (insn_of_object o point).op
+
 -- so does a static branch or an exception entry
 abbrev pub is_bad_listed : Coded → EdgeKind → Point → List Place → Bool
 is_bad_listed o kind point places = list_any (λ place. is_bad (listed_way o kind (owner_of_point o point) place)) places
@@ -62,7 +66,7 @@ is_bad_listed o kind point places = list_any (λ place. is_bad (listed_way o kin
 -- a target of the point is no place to go
 unfoldable pub has_bad_target : Coded → Point → Bool
 has_bad_target o point =
-    is_bad_by o point (insn_of_object o point).op
+    is_bad_branch o point
     || (is_bad_listed o Taken point (static_targets o point)
     || is_bad_listed o Fixup point (fixups o point))
 
@@ -86,6 +90,10 @@ places_by o point (Jcc rel wide) = jump_places o point (destination_of o point)
 places_by o point Hop = hop_places o point (destination_of o point)
 places_by o point _ = []
 
+-- that of a branch, which is outside where it returns through code that returns for its caller
+abbrev pub branch_places : Coded → Point → List Place
+branch_places o point = if is_some (returns_through o point) then [] else places_by o point (insn_of_object o point).op
+
 -- those of a static branch or an exception entry
 abbrev pub listed_places : Coded → EdgeKind → Point → List Place → List Place
 listed_places o kind point places = filter (λ place. is_along (listed_way o kind (owner_of_point o point) place)) places
@@ -94,7 +102,7 @@ listed_places o kind point places = filter (λ place. is_along (listed_way o kin
 -- branches and exception entries there
 abbrev pub target_places : Coded → Point → List Place
 target_places o point =
-    places_by o point (insn_of_object o point).op
+    branch_places o point
     ++ (table_of_point o point
     ++ (listed_places o Taken point (static_targets o point)
     ++ listed_places o Fixup point (fixups o point)))
@@ -103,9 +111,14 @@ target_places o point =
 unfoldable pub has_target_in_site : Coded → Point → Bool
 has_target_in_site o point = list_any (is_into_site o point) (target_places o point)
 
--- a call goes to a boundary that isn't entered by calls of that point, and at which no unchecked function starts
+-- a call goes to a boundary that isn't entered by calls of that point and is no gate that it calls, and at which no unchecked
+-- function starts
 abbrev pub is_inner_call_of : Coded → Point → Place → Bool
-is_inner_call_of o point place = is_boundary (texts_of o) place && (is_none (unchecked_start o.elf place) && not (is_called o point place))
+is_inner_call_of o point place =
+    is_boundary (texts_of o) place
+    && (is_none (unchecked_start o.elf place)
+    && (not (is_called o point place)
+    && is_none (gate_called o point place)))
 
 -- so does a call of the padding of its own replacement
 abbrev pub is_inner_call : Coded → Point → Destination → Bool

@@ -1,5 +1,6 @@
 -- What an instruction is to its function.
-use Rattle.std.specs.Prelude.{ℕ, ◌&&◌, ◌||◌, Bool, List, [], ◌∷◌, Option, Some, None, is_none, unwrap_or, if◌then◌else◌}
+use Rattle.std.specs.Prelude.{ℕ, ◌&&◌, ◌||◌, not, Bool, true, false, List, [], ◌∷◌, Option, Some, None, is_none, is_some, unwrap_or, if◌then◌else◌}
+use Rattle.std.specs.List.{list_all}
 use Rattle.ot_base.specs.declared.place.Place.{Place}
 use Rattle.alternatives.specs.Texts.{is_boundary}
 use Rattle.operation_defs.specs.declared.op.Op.{Op}
@@ -14,12 +15,15 @@ use Rattle.flow_defs.specs.declared.destination.Destination.TheVariants.{ToPlace
 use Rattle.flow_defs.specs.declared.destination.Way.{Way}
 use Rattle.flow_defs.specs.declared.destination.Way.TheVariants as ways
 use Rattle.flow_defs.specs.Code.{texts_of, alternatives_of, number_of, plain_point}
-use Rattle.flow_defs.specs.Sites.{site_holding}
+use Rattle.flow_defs.specs.Sites.{is_past_start, site_holding}
+use Rattle.state_defs.specs.declared.state.HintState.{HintState}
+use Rattle.state_defs.specs.declared.state.HintState.TheVariants.{Set}
+use Rattle.state_defs.specs.declared.state.State.TheVariants.{Regs}
 use Rattle.machine_defs.specs.Ways.{is_call_hint}
 use Rattle.symbols_relocs.specs.Parts.{owner_at}
-use Rattle.flow_defs.specs.Owners.{owner_of_point, is_entry, unchecked_start}
-use Rattle.flow_defs.specs.Arrival.{hint_of, insn_of_object, is_padding}
-use Rattle.flow_defs.specs.Targets.{destination_of}
+use Rattle.flow_defs.specs.Owners.{owner_of_point, is_entry, is_unchecked_point, unchecked_start}
+use Rattle.flow_defs.specs.Arrival.{arrival_points, decoded_insn, hint_of, insn_of_object, is_padding}
+use Rattle.flow_defs.specs.Targets.{destination_of, names_of, returning_inside, returning_target}
 use Rattle.flow_defs.specs.Ways.{jump_way}
 
 -- the number of the plain point at a place
@@ -31,25 +35,48 @@ abbrev pub entry_call : ℕ → Option ℕ → Role
 entry_call entry None = CallIn entry
 entry_call entry (Some sym) = CallEither entry sym
 
--- Code of no function may call a place at which no function starts: the plain point there is of no function, a hint there tells
--- a call frame or ends the stack, and no site holds the place.
+-- a point may call code of no function: it is of no function itself, or of a checked one, and names what it calls
+abbrev pub may_call_free : Coded → Point → Bool
+may_call_free o point = is_none (owner_of_point o point) || (not (is_unchecked_point o point) && is_some (names_of o point))
+
+-- a point is of no function, and a hint tells a call frame there, or ends the stack
+abbrev pub is_free_callee : Coded → Point → Bool
+is_free_callee o point = is_none (owner_of_point o point) && is_call_hint (hint_of o point)
+
+-- Such a point may call a place at which no function starts: no site holds the place, or one starts there; and wherever control
+-- may stand that comes there, there is code of no function with such a hint.
 abbrev pub may_call : Coded → Point → Place → Bool
 may_call o point place =
-    is_none (owner_of_point o point)
-    && (is_none (owner_at o.elf place)
-    && (is_call_hint (hint_of o (plain_point place))
-    && is_none (site_holding o place)))
+    may_call_free o point
+    && (not (is_past_start place (site_holding o place))
+    && list_all (is_free_callee o) (arrival_points o place))
 
--- a place is an entry of a call: that of a function, or what code of no function may call
+-- a place is an entry of a call: that of a function, or what the point may call of code of no function
 abbrev pub is_called : Coded → Point → Place → Bool
 is_called o point place = is_entry o.elf place || may_call o point place
+
+-- a hint tells saved registers (REGS, REGS_PARTIAL)
+abbrev pub tells_regs : Option HintState → Bool
+tells_regs (Some (Set (Regs full depth))) = true
+tells_regs _ = false
+
+-- The symbol by which a function calls a gate: code of no function, at which a hint tells saved registers. The function pushed
+-- what an interrupt does, and the gate returns behind the call.
+abbrev pub gate_called : Coded → Point → Place → Option ℕ
+gate_called o point place =
+    if is_some (owner_of_point o point) && (is_none (owner_at o.elf place) && tells_regs (hint_of o (plain_point place))) then names_of o point else None
+
+-- a call of no entry is one of code outside where it calls a gate, and else of nothing
+abbrev pub call_of_gate : Option ℕ → Role
+call_of_gate None = Plain
+call_of_gate (Some sym) = CallOut sym
 
 -- What a call of a boundary is, by a WEAK symbol or not, told whether an unchecked function starts there.
 abbrev pub call_by : Coded → Point → Place → Option ℕ → Option ℕ → Role
 -- where one does, a call of code outside, by that function's symbol
 call_by o point place weak (Some f) = CallOut f
--- else a call of what is entered there, or of nothing
-call_by o point place weak None = if is_called o point place then entry_call (plain_number o place) weak else Plain
+-- else a call of what is entered there, of a gate, or of nothing
+call_by o point place weak None = if is_called o point place then entry_call (plain_number o place) weak else call_of_gate (gate_called o point place)
 
 -- a call of a place, by a WEAK symbol or not
 abbrev pub place_call : Coded → Point → Place → Option ℕ → Role
@@ -104,6 +131,22 @@ role_by o point ops.Iret = Switch
 role_by o point ops.Switch = Switch
 role_by o point _ = Plain
 
+-- Code returns here through code that returns for its caller, by this symbol: it calls such code, or it jumps to such code where
+-- it begins inside another instruction. Where it begins at a boundary, a jump to it is one as to any code.
+abbrev pub returns_through_by : Coded → Point → Op → Option ℕ
+returns_through_by o point (ops.Call rel) = returning_target o (destination_of o point)
+returns_through_by o point (ops.Jmp rel wide) = returning_inside o (destination_of o point)
+returns_through_by o point (ops.Jcc rel wide) = returning_inside o (destination_of o point)
+returns_through_by o point _ = None
+
+unfoldable pub returns_through : Coded → Point → Option ℕ
+returns_through o point = returns_through_by o point (decoded_insn o point).op
+
+-- by such a symbol it jumps outside
+abbrev pub role_through : Coded → Point → Option ℕ → Role
+role_through o point (Some sym) = JumpOut sym
+role_through o point None = role_by o point (insn_of_object o point).op
+
 -- what a point is to its function
 unfoldable pub role_of : Coded → Point → Role
-role_of o point = let insn = insn_of_object o point in role_by o point insn.op
+role_of o point = role_through o point (returns_through o point)

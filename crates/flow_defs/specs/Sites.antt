@@ -36,6 +36,11 @@ sites_of o = filter_map (site_starting_at o) (places_of o)
 unfoldable pub site_holding : Coded → Place → Option Site
 site_holding o place = find (λ site. in_site site place) (sites_of o)
 
+-- a place is in a site, past its start
+abbrev pub is_past_start : Place → Option Site → Bool
+is_past_start place None = false
+is_past_start place (Some site) = not (same_place site.start place)
+
 -- a point is one of the original code of a site
 abbrev pub is_original_of : Site → Point → Bool
 is_original_of site point = is_plain point && in_site site point.place

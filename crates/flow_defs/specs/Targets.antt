@@ -11,13 +11,16 @@ use Rattle.symbols_relocs.specs.NamedPlaces.{offset_of, reloc_at}
 use Rattle.symbols_relocs.specs.declared.target.Target.{Target}
 use Rattle.symbols_relocs.specs.declared.target.Target.TheVariants.{Inside, Either, Outside, ThunkIndirect, ThunkReturn, Bad}
 use Rattle.symbols_relocs.specs.Targets.{branch_target, last_bytes}
+use Rattle.symbols_relocs.specs.BranchNames.{branch_name}
+use Rattle.symbols_relocs.specs.NamedCode.{returning_at}
 use Rattle.alternatives.specs.declared.point.Point.{Point}
 use Rattle.alternatives.specs.Points.{is_point}
+use Rattle.alternatives.specs.Texts.{is_boundary}
 use Rattle.flow_defs.specs.declared.destination.Crossing.TheVariants.{MayCross, MayNotCross}
 use Rattle.flow_defs.specs.declared.destination.Destination.{Destination}
 use Rattle.flow_defs.specs.declared.destination.Destination.TheVariants.{ToPlace, ToOwnPoint, ToOutside, ToIndirectThunk, ToReturnThunk, ToNowhere}
 use Rattle.flow_defs.specs.Code.{texts_of, alternatives_of, is_plain}
-use Rattle.flow_defs.specs.Arrival.{decoded_insn, site_end, replacement_end}
+use Rattle.flow_defs.specs.Decoded.{decoded_insn, replacement_end, site_end}
 
 -- a displacement: how many bytes of the instruction's end it has, and its value
 pub record Displacement : Type 0 where
@@ -75,3 +78,18 @@ destination o point insn = destination_by o point insn (displacement_of insn.op)
 -- that of the instruction at a point as it is decoded: of a call within a function, where its call goes
 abbrev pub destination_of : Coded → Point → Destination
 destination_of o point = destination o point (decoded_insn o point)
+
+-- the symbol by which a call, or a jump by a displacement of 32 bits, names its target, if other objects know it
+abbrev pub names_of : Coded → Point → Option ℕ
+names_of o point = branch_name o.elf point.place (decoded_insn o point)
+
+-- A destination is the place of code that returns for its caller, that of this symbol. Without a relocation a replacement's code
+-- doesn't go there.
+abbrev pub returning_target : Coded → Destination → Option ℕ
+returning_target o (ToPlace place weak MayCross) = returning_at o.elf place
+returning_target o _ = None
+
+-- it is, and no instruction begins there: the code begins inside another one
+abbrev pub returning_inside : Coded → Destination → Option ℕ
+returning_inside o (ToPlace place weak MayCross) = if is_boundary (texts_of o) place then None else returning_at o.elf place
+returning_inside o _ = None

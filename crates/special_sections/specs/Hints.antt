@@ -1,7 +1,8 @@
 -- The entries of `.discard.unwind_hints` (Linux 6.6, `struct unwind_hint` of objtool_types.h; the types are those of
 -- orc_types.h and objtool_types.h).
-use Rattle.std.specs.Prelude.{ℕ, ◌+◌, ◌*◌, ◌==◌, ◌||◌, ◌&&◌, not, nat_lt, Bool, [], ◌∷◌, Option, slice_index, int_lt, pos, codes}
+use Rattle.std.specs.Prelude.{ℕ, ◌+◌, ◌*◌, ◌==◌, ◌||◌, ◌&&◌, not, nat_lt, Bool, [], ◌∷◌, Option, slice_index, int_lt, pos, codes, if◌then◌else◌}
 use Rattle.std.specs.Int.{cast_signed, w16}
+use Rattle.ot_base.specs.declared.place.Place.{Place}
 use Rattle.elf_objects.specs.Elf.{Elf}
 use Rattle.elf_objects.specs.Contents.{section_at}
 use Rattle.elf_objects.specs.Number.{half}
@@ -16,18 +17,14 @@ use Rattle.special_sections.specs.Kinds.{EntryKind}
 use Rattle.special_sections.specs.Tables.{table_count}
 
 -- 12 bytes: place u32, sp_offset s16, sp_reg u8, type u8, signal u8, and three bytes that are not read
-abbrev pub hint_from : Elf → ℕ → ℕ → HintEntry
-hint_from o sec at = let body = (section_at o sec).body in record {
+abbrev pub hint_written : Elf → ℕ → ℕ → HintEntry
+hint_written o sec at = let body = (section_at o sec).body in record {
   place = or_nowhere (place_held_at o (field_at sec at));
   sp_offset = cast_signed w16 (half body (at + 4));
   sp_reg = slice_index body (at + 6);
   kind = slice_index body (at + 7);
   signal = not (slice_index body (at + 8) == 0);
 }
-
--- the hint of an entry
-abbrev pub hint_entry : Elf → ℕ → ℕ → HintEntry
-hint_entry o sec e = hint_from o sec (12 * e)
 
 -- type 2 is CALL, 3 REGS, 4 REGS_PARTIAL and 5 FUNC: 3 and 4 are hints of saved registers
 abbrev pub has_regs : ℕ → Bool
@@ -45,22 +42,39 @@ has_bad_offset h = ((h.kind == 2) && int_lt h.sp_offset (pos 8)) || (has_regs h.
 abbrev pub has_bad_signal : ℕ → ℕ → Bool
 has_bad_signal kind signal = (((kind == 2) || (kind == 5)) && not (signal == 0)) || (has_regs kind && not (signal == 1))
 
--- why an entry is refused; several may stand at one place
-abbrev pub hint_why_from : Elf → ℕ → ℕ → Option Why
-hint_why_from o sec at = let field = field_at sec at in let h = hint_from o sec at in first_reason
+-- the signal byte of an entry
+abbrev pub signal_byte : Elf → ℕ → ℕ → ℕ
+signal_byte o sec at = slice_index (section_at o sec).body (at + 8)
+
+-- an entry's base, offset or signal isn't one of its type
+abbrev pub is_misfit : HintEntry → ℕ → Bool
+is_misfit h signal = has_other_base h || (has_bad_offset h || has_bad_signal h.kind signal)
+
+-- what an entry says: of one that is written so, nothing is known of the stack (type 0, UNDEFINED)
+abbrev pub hint_from : Elf → ℕ → ℕ → HintEntry
+hint_from o sec at = let h = hint_written o sec at in if is_misfit h (signal_byte o sec at) then record h { kind = 0 } else h
+
+-- the hint of an entry
+abbrev pub hint_entry : Elf → ℕ → ℕ → HintEntry
+hint_entry o sec e = hint_from o sec (12 * e)
+
+-- Why an entry is refused, where it is told which places are loose: at these its base, offset and signal may be any. Several may
+-- stand at one place.
+abbrev pub hint_why_from : (Place → Bool) → Elf → ℕ → ℕ → Option Why
+hint_why_from loose o sec at = let field = field_at sec at in let h = hint_written o sec at in first_reason
     ((lacks_reloc o field, NoReloc)
     ∷ (not (holds_text_place o BelowEnd field), NotText)
     ∷ (nat_lt 7 h.kind, HintType)
-    ∷ (has_other_base h, HintBase)
-    ∷ (has_bad_offset h, HintOffset)
-    ∷ (has_bad_signal h.kind (slice_index (section_at o sec).body (at + 8)), HintSignal)
+    ∷ (has_other_base h && not (loose h.place), HintBase)
+    ∷ (has_bad_offset h && not (loose h.place), HintOffset)
+    ∷ (has_bad_signal h.kind (signal_byte o sec at) && not (loose h.place), HintSignal)
     ∷ [])
 
-abbrev pub hints : EntryKind HintEntry
-hints = record {
+abbrev pub hints : (Place → Bool) → EntryKind HintEntry
+hints loose = record {
   name = codes ".discard.unwind_hints";
   count = table_count 12;
   section_why = table_why 12;
   entry = hint_entry;
-  why = λ o sec e. hint_why_from o sec (12 * e);
+  why = λ o sec e. hint_why_from loose o sec (12 * e);
 }

@@ -1,7 +1,9 @@
 -- What the special sections of an object say, and what keeps them from being read.
-use Rattle.std.specs.Prelude.{List, ◌++◌, filter}
+use Rattle.std.specs.Prelude.{List, ◌++◌, filter, false}
 use Rattle.ot_base.specs.declared.place.Place.{Place}
+use Rattle.ot_base.specs.NameLists.{NameLists}
 use Rattle.elf_objects.specs.Elf.{Elf}
+use Rattle.symbols_relocs.specs.NamedCode.{is_in_named_code}
 use Rattle.special_sections.specs.declared.entries.AltEntry.{AltEntry}
 use Rattle.special_sections.specs.declared.entries.BranchEntry.{BranchEntry}
 use Rattle.special_sections.specs.declared.entries.FixEntry.{FixEntry}
@@ -27,14 +29,14 @@ pub record SpecialEntries : Type 0 where
   pub safe_branches : List Place
   pub intra_calls : List Place
 
--- What the special sections of an object say. Alternatives at one place are nested in one another; a place of the unchecked
--- list that is not in a text section is passed by.
+-- What the special sections of an object say, wherever its code is loose. Alternatives at one place are nested in one another; a
+-- place of the unchecked list that is not in a text section is passed by.
 abbrev pub special_of : Elf → SpecialEntries
 special_of o = record {
   alternatives = nested (entries tables.alternatives o);
   branches = entries tables.branches o;
   fixes = entries tables.fixes o;
-  hints = entries hint.hints o;
+  hints = entries (hint.hints (λ _. false)) o;
   after_reachable = entries lists.after_reachable o;
   after_unreachable = entries lists.after_unreachable o;
   unchecked = filter (is_text_place o BelowEnd) (entries lists.unchecked o);
@@ -42,13 +44,14 @@ special_of o = record {
   intra_calls = entries lists.intra_calls o;
 }
 
--- their faults, in order; entries are judged as they are written
-abbrev pub special_faults : Elf → List SpecialFault
-special_faults o =
+-- Their faults, in order. Entries are judged as they are written, and hints also by which code is loose: that in the bytes of
+-- symbols whose names are listed so.
+abbrev pub special_faults : Elf → NameLists → List SpecialFault
+special_faults o lists =
     faults tables.alternatives o
     ++ (faults tables.branches o
     ++ (faults tables.fixes o
-    ++ (faults hint.hints o
+    ++ (faults (hint.hints (is_in_named_code o lists.loose)) o
     ++ (faults lists.after_reachable o
     ++ (faults lists.after_unreachable o
     ++ (faults lists.unchecked o
