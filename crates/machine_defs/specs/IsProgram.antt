@@ -38,10 +38,10 @@ pub record IsProgram (p : Program) : Type 0 where
   -- tail calls go to entries
   pub siblings : (q r : ℕ) → IsPoint p q → Contains (p.goes q) (edge r Sibling) → (entry : ℕ) × Contains p.entries entry × Contains (entry_points p entry) r
   -- the role of a call is that of a call instruction; the points that follow one which execution passes
-  -- are its next points; a return that drops bytes is a return
+  -- are its next points; a return that drops bytes is a return, and names no symbol
   pub calls : (q : ℕ) → IsPoint p q → is_call (p.role q) ≡ true → is_call_op (p.insn q).op ≡ true
   pub call_next : (q r : ℕ) → IsPoint p q → p.unchecked q ≡ false → is_call (p.role q) ≡ true → p.dead_end q ≡ false → Contains (p.after q) r → Contains (p.goes q) (edge r Next)
-  pub returns : (q : ℕ) → IsPoint p q → (p.insn q).op ≡ RetImm → p.role q ≡ Return
+  pub returns : (q : ℕ) → IsPoint p q → (p.insn q).op ≡ RetImm → (p.role q ≡ Return) × (p.names q ≡ None)
   -- numbers in operations have 64 bits, and states that hints set are consistent
   pub numbers : (q : ℕ) → IsPoint p q → HasSignedNumber (p.insn q).op
   pub hints : (q : ℕ) (s : State) → IsPoint p q → p.hint q ≡ Some (Set s) → IsConsistent s

@@ -1,11 +1,9 @@
 -- A return, a return from an interrupt, and a jump to another function.
-use Rattle.std.specs.List.{list_any}
-use Rattle.std.proofs.lemmas.Bool.{and_parts}
-use Rattle.std.proofs.Common.{◌≡◌, ℕ, ◌-◌, ◌^◌, ◌<◌, ◌≤◌, not, is_some, Bool, true, false, List, ◌∷◌, Option, Some, None, MatchBool, Contains, All, flat_map, refl, sym, ap, ◌∙◌, subst, inl, inr, arith}
+use Rattle.std.proofs.Common.{◌≡◌, ℕ, ◌-◌, ◌^◌, ◌<◌, ◌≤◌, is_some, Bool, true, false, List, ◌∷◌, Option, Some, None, MatchBool, Contains, All, flat_map, refl, sym, ap, ◌∙◌, subst, inl, inr, arith}
 use Rattle.std.proofs.lemmas.List.Elements.{All-head, All-tail}
 use Rattle.machine_defs.specs.declared.flow.EdgeKind.TheVariants.{Next, Sibling}
 use Rattle.machine_defs.specs.declared.flow.Role.{Role}
-use Rattle.machine_defs.specs.declared.flow.Role.TheVariants.{CallIn, CallEither, CallOut, CallAny, Return}
+use Rattle.machine_defs.specs.declared.flow.Role.TheVariants.{Return}
 use Rattle.state_defs.specs.declared.state.EndKind.{EndKind}
 use Rattle.state_defs.specs.declared.state.State.{State}
 use Rattle.state_defs.specs.declared.state.State.TheVariants.{Live, Ended, Regs}
@@ -17,7 +15,7 @@ use Rattle.state_defs.specs.State.{initial, ended_by, MeansTop}
 use Rattle.machine_defs.specs.Program.{Program, IsPoint, entry_points, is_call, edge}
 use Rattle.machine_defs.specs.Machine.{Bases, Standing, At, return_address, point_address}
 use Rattle.machine_defs.specs.Step.{ends_run, LeavesMemory, Returns, JumpsTo, sibling, indirect, TailCalls, ReturnsFromInterrupt}
-use Rattle.machine_defs.specs.MayReturn.{MayReturn, target_may_return, may_call_out, is_listed}
+use Rattle.machine_defs.specs.MayReturn.{MayReturn, target_may_return}
 use Rattle.machine_defs.specs.MayReturn as may
 use Rattle.machine_defs.specs.Kept.{Kept}
 use Rattle.machine_defs.specs.Broken.{IsAccepted, LeavesByJump}
@@ -25,7 +23,7 @@ use Rattle.machine_defs.specs.Broken as broken
 use Rattle.machine_defs.specs.IsProgram.{IsProgram}
 use Rattle.machine_defs.specs.Law.{CallReturns, AreMarksKept, IsInnerFrame, AreFrames, HasRunInvariant, HasFrameInvariant, IsInOrder}
 use Rattle.machine_defs.specs.Law as law
-use Rattle.unwinding_law.proofs.Lists.{all_right, find_one}
+use Rattle.unwinding_law.proofs.Lists.{all_right}
 use Rattle.unwinding_law.proofs.Numbers.{up_down}
 use Rattle.unwinding_law.proofs.Memory.{same_hi, spared_kept}
 use Rattle.unwinding_law.proofs.KeptStates.{entry_kept}
@@ -33,6 +31,7 @@ use Rattle.unwinding_law.proofs.Frames.{frames_elsewhere, frame_invariant, stays
 use Rattle.unwinding_law.proofs.Passes.{same_frames}
 use Rattle.unwinding_law.proofs.Landing.{IsComing, no_slots}
 use Rattle.unwinding_law.proofs.Wrecks.{allowed_here}
+use Rattle.unwinding_law.proofs.ComesBack.{call_comes_back}
 use Rattle.unwinding_law.proofs.Edges.{edge_in, next_checked, call_next_in, past_call}
 use Rattle.unwinding_law.proofs.Leaves.{at_jump, at_leave, leaves_may_return}
 
@@ -41,23 +40,8 @@ pub inner_of : (p : Program) (bases : Bases) (q call : ℕ) (g : Frame) (fs : Li
 inner_of p bases q call g fs (law.outermost at f rest none h) e = let k : None ≡ Some call = sym none ∙ e in absurd (let k : ⊥ = cc in k)
 inner_of p bases q call g fs (law.inner at from f rest called h below) e = let o : Some from ≡ Some call = sym called ∙ e in let k : from ≡ call = cc in (subst (λ (x : ℕ). IsInnerFrame p bases q x g fs) k h, subst (λ (x : ℕ). AreFrames p bases x fs) k below)
 
-not_true : (b : Bool) → not b ≡ true → b ≡ false
-not_true true e = absurd (let k : ⊥ = cc in k)
-not_true false e = refl
-
--- no return comes past a call whose target may not return, unless one may come from there
-call_comes_back : (p : Program) → IsProgram p → (call q : ℕ) → IsPoint p call → (x : Role) → p.role call ≡ x → is_call x ≡ true → target_may_return p x ≡ true → p.dead_end call ≡ false → Contains (p.goes call) (edge q Next) → MayReturn p q → MayReturn p call
-call_comes_back p is call q point (CallIn entry) e c back passed next m =
-    let both = and_parts (not (is_listed p (CallIn entry))) (list_any p.may_return (entry_points p entry)) back in
-    let r = find_one p.may_return (entry_points p entry) both.1 in
-    may.comes_back_in call q entry r.0 e (not_true (is_listed p (CallIn entry)) both.0) passed r.1 ((is.may_return r.0 (is.arrivals (p.place entry) r.0 r.1)).0 r.2) next m
-call_comes_back p is call q point (CallEither entry symbol) e c back passed next m = may.comes_back call q (ap (may_call_out p) e ∙ (and_parts (not (is_listed p (CallEither entry symbol))) true back).0) passed next m
-call_comes_back p is call q point (CallOut symbol) e c back passed next m = may.comes_back call q (ap (may_call_out p) e ∙ (and_parts (not (p.never_returns symbol)) true back).0) passed next m
-call_comes_back p is call q point CallAny e c back passed next m = may.comes_back call q (ap (may_call_out p) e) passed next m
-call_comes_back p is call q point _ e c back passed next m = absurd (let k : ⊥ = cc in k)
-
 -- the target of a call to which a return comes back may return
-pub comes_back_to : (p : Program) → IsProgram p → (s t : Standing) → IsPoint p s.point → (h : Returns p s t) → CallReturns p h.call s.point → target_may_return p (p.role h.call) ≡ true
+pub comes_back_to : (p : Program) → IsProgram p → (s t : Standing) → IsPoint p s.point → (h : Returns p s t) → CallReturns p h.call s.point → target_may_return p h.call ≡ true
 comes_back_to p is s t point h (inl e) = absurd (let e2 = h.passed in let k : ⊥ = cc in k)
 comes_back_to p is s t point h (inr (inl e)) = absurd (let e2 = h.unlisted in let k : ⊥ = cc in k)
 comes_back_to p is s t point h (inr (inr (inl e))) = e
@@ -117,10 +101,10 @@ module _ (p : Program) (bases : Bases) (is : IsProgram p) (acc : IsAccepted p) (
         let i : IsInnerFrame p bases s.point h.call h.frame h.below = both.0 in
         let k = i.call_kept in
         let call : is_call (p.role h.call) ≡ true = (subst (λ (b : Bool). MatchBool b ((h.frame.ra ≡ return_address p bases h.call) × (is_call (p.role h.call) ≡ true)) (h.frame.ra ≡ point_address p bases h.call)) h.ready.of_call i.goes_back).1 in
-        let back : target_may_return p (p.role h.call) ≡ true = comes_back_to p is s t r.point h (i.comes_back h.ready.of_call) in
+        let back : target_may_return p h.call ≡ true = comes_back_to p is s t r.point h (i.comes_back h.ready.of_call) in
         let next : Contains (p.goes h.call) (edge t.point Next) = call_next_in p is acc h.call t.point k.state i.point k.kept call h.passed h.comes_back in
         let point : IsPoint p t.point = is.followers h.call t.point i.point h.comes_back in
-        let frames : AreFrames p bases t.point h.below = frames_elsewhere p bases h.call t.point h.below (stays_out p bases is h.call t.point i.point point (call_comes_back p is h.call t.point i.point (p.role h.call) refl call back h.passed next)) both.1 in
+        let frames : AreFrames p bases t.point h.below = frames_elsewhere p bases h.call t.point h.below (stays_out p bases is h.call t.point i.point point (call_comes_back p is h.call t.point i.point h.passed next call back)) both.1 in
         let hi : hi_of t.core.region ≡ hi_of s.core.region = left_hi (p.role s.point) h.below s.core.region t.core.region h.memory in
         record {
           point = point;

@@ -1,9 +1,11 @@
 -- A call of an entry, and an interrupt: a frame is made.
-use Rattle.std.proofs.Common.{◌≡◌, ℕ, ◌+◌, ◌-◌, ◌^◌, ◌<◌, ◌≤◌, ◌&&◌, not, Bool, true, false, List, ◌∷◌, Option, Some, None, Contains, All, flat_map, refl, sym, ap, ◌∙◌, subst, inl, inr, arith, le_refl}
+use Rattle.std.proofs.Common.{◌≡◌, ℕ, ◌+◌, ◌-◌, ◌^◌, ◌<◌, ◌≤◌, ◌&&◌, ◌||◌, not, Bool, true, false, List, ◌∷◌, Option, Some, None, Contains, All, flat_map, refl, sym, ap, ◌∙◌, subst, inl, inr, arith, le_refl, pos}
 use Rattle.std.proofs.lemmas.List.Elements.{All-cons, All-weaker, All-contains}
 use Rattle.machine_defs.specs.declared.flow.Role.{Role}
 use Rattle.machine_defs.specs.declared.flow.Role.TheVariants.{CallIn, CallEither, CallAny}
 use Rattle.state_defs.specs.declared.state.EndKind.{EndKind}
+use Rattle.state_defs.specs.declared.state.State.TheVariants.{Regs}
+use Rattle.state_defs.specs.declared.state.HintState.TheVariants.{Set}
 use Rattle.state_defs.specs.Address.{down}
 use Rattle.state_defs.specs.Region.{hi_of, Holds}
 use Rattle.state_defs.specs.Frame.{Frame, Mark, Protected, protected, listed, AreKept, LieAbove}
@@ -21,7 +23,7 @@ use Rattle.unwinding_law.proofs.Lists.{all_of, found}
 use Rattle.unwinding_law.proofs.Numbers.{down_inside, reads_holds}
 use Rattle.unwinding_law.proofs.Memory.{same_hi, word_above}
 use Rattle.unwinding_law.proofs.KeptStates.{entry_kept}
-use Rattle.unwinding_law.proofs.WaysOn.{called_alone, called_is_told}
+use Rattle.unwinding_law.proofs.WaysOn.{called_is_told}
 use Rattle.unwinding_law.proofs.Landing.{IsComing}
 
 module _ (p : Program) (bases : Bases) (s : Standing) (r : HasRunInvariant p s) where
@@ -53,13 +55,14 @@ module _ (p : Program) (bases : Bases) (s : Standing) (r : HasRunInvariant p s) 
   may_come_back CallAny entry q h c k = refl
   may_come_back _ entry q h c k = absurd h
 
-  call_returns : (entry q : ℕ) → IsTarget p (p.role s.point) entry → Contains (entry_points p entry) q → (listed back : Bool) → is_listed p (p.role s.point) ≡ listed → p.may_return q ≡ back → CallReturns p s.point q
+  call_returns : (entry q : ℕ) → IsTarget p (p.role s.point) entry → Contains (entry_points p entry) q → (listed back : Bool) → is_listed p s.point ≡ listed → p.may_return q ≡ back → CallReturns p s.point q
   call_returns entry q h c true back l e = inr (inl l)
-  call_returns entry q h c false true l e = inr (inr (inl (both (is_listed p (p.role s.point)) (code_may_return p (p.role s.point)) l (may_come_back (p.role s.point) entry q h c e))))
+  call_returns entry q h c false true l e = inr (inr (inl (both (is_listed p s.point) (p.marked_call s.point) (code_may_return p (p.role s.point)) l (may_come_back (p.role s.point) entry q h c e))))
     where
-      both : (x y : Bool) → x ≡ false → y ≡ true → (not x && y) ≡ true
-      both false y e f = f
-      both true y e f = absurd (let k : ⊥ = cc in k)
+      both : (x m y : Bool) → x ≡ false → y ≡ true → (not x && (m || y)) ≡ true
+      both false true y e f = refl
+      both false false y e f = f
+      both true m y e f = absurd (let k : ⊥ = cc in k)
   call_returns entry q h c false false l e = inr (inr (inr e))
 
 -- What is called is checked, and is kept with the initial state where no hint there tells another.
@@ -72,10 +75,9 @@ comes_to p bases is s t r entry arrives (inl listed) =
     let checked = is.entries_checked entry t.point listed arrives in
     record { checked = checked; kept = λ free. entry_kept p t.point entry checked free listed arrives }
 comes_to p bases is s t r entry arrives (inr may) =
-    let same : t.point ≡ entry = called_alone p is s.point entry t.point may arrives in
-    let told : is_free (p.hint t.point) ≡ false = called_is_told p s.point entry t.point may same in
+    let told : is_free (p.hint t.point) ≡ false = called_is_told p s.point entry t.point may arrives in
     record {
-      checked = subst (λ (x : ℕ). p.unchecked x ≡ false) (sym same) (is.unowned entry may.point may.of_none);
+      checked = is.unowned t.point (is.arrivals (p.place entry) t.point arrives) (may.hinted t.point arrives).0;
       kept = λ free. absurd (let k : ⊥ = cc in k);
     }
 
@@ -170,7 +172,7 @@ module _ (p : Program) (bases : Bases) (is : IsProgram p) (s t : Standing) (r : 
         let inner : IsInnerFrame p bases t.point s.point (call_frame p bases s) s.core.shadow = record {
           point = r.point;
           call_kept = from_here p bases s r (call_frame p bases s) refl refl refl;
-          comes_back = λ _. call_returns p bases s r g.entry t.point g.target g.arrives (is_listed p (p.role s.point)) (p.may_return t.point) refl refl;
+          comes_back = λ _. call_returns p bases s r g.entry t.point g.target g.arrives (is_listed p s.point) (p.may_return t.point) refl refl;
           mark_kept = f.mark;
           goes_back = (refl, called_role p bases s r (p.role s.point) g.entry g.target);
         } in
@@ -181,10 +183,13 @@ module _ (p : Program) (bases : Bases) (is : IsProgram p) (s t : Standing) (r : 
           told = λ free. at_entry point (came.kept free);
         }
 
-  -- an interrupt comes to a gate, whose hint tells everything
+  -- an interrupt comes to a gate, whose hint tells everything, whichever variant stands there
+  gate_hint : (g : IsInterrupted p bases s t) → p.hint t.point ≡ Some (Set (Regs false (pos g.n)))
+  gate_hint g = elim (g.gate.counts t.point g.arrives) [ inl same ↦ subst (λ (q : ℕ). p.hint q ≡ Some (Set (Regs false (pos g.n)))) (sym same) g.gate.hint | inr counts ↦ counts.1 ]
+
   pub interrupts_come : IsInterrupted p bases s t → IsComing p bases t
   interrupts_come g =
-      let point : IsPoint p t.point = g.gate.point in
+      let point : IsPoint p t.point = is.arrivals (p.place g.entered) t.point g.arrives in
       let inner : IsInnerFrame p bases t.point s.point (interrupt_frame p bases s) s.core.shadow = record {
         point = r.point;
         call_kept = from_here p bases s r (interrupt_frame p bases s) refl refl refl;
@@ -194,7 +199,7 @@ module _ (p : Program) (bases : Bases) (is : IsProgram p) (s t : Standing) (r : 
       } in
       record {
         point = point;
-        checked = is.unowned t.point point g.gate.free;
+        checked = is.unowned t.point point ((is.arrives_owned g.entered t.point g.gate.point g.gate.plain g.arrives).0 ∙ g.gate.free);
         frames = with_frame (interrupt_frame p bases s) inner refl refl (ap (λ (x : Core). x.shadow) g.core) (same_hi s.core.region t.core.region g.only.addresses) g.mark;
-        told = λ free. absurd (let e : is_free (p.hint t.point) ≡ false = ap is_free g.gate.hint in let k : ⊥ = cc in k);
+        told = λ free. absurd (let e : is_free (p.hint t.point) ≡ false = ap is_free (gate_hint g) in let k : ⊥ = cc in k);
       }

@@ -2,11 +2,12 @@
 use Rattle.std.proofs.Common.{◌≡◌, ℕ, zero, suc, ◌⊎◌, Bool, true, false, if◌then◌else◌, List, [], ◌∷◌, Option, Some, None, Result, Ok, Err, ◌==◌, Contains, filter, option_and_then, refl, sym, ap, ◌∙◌, subst, inl, inr, arith}
 use Rattle.std.specs.List.{list_any}
 use Rattle.std.proofs.lemmas.Bool.{eq-eqb, eqb-true}
-use Rattle.operation_defs.specs.declared.op.Op.{Op}
 use Rattle.machine_defs.specs.declared.flow.Edge.{Edge}
 use Rattle.machine_defs.specs.declared.flow.EdgeKind.{EdgeKind}
 use Rattle.machine_defs.specs.declared.flow.EdgeKind.TheVariants.{Next, Taken, Fixup, Table, Sibling}
 use Rattle.state_defs.specs.declared.state.State.{State}
+use Rattle.state_defs.specs.declared.state.EndKind.TheVariants.{Undefined}
+use Rattle.state_defs.specs.declared.state.State.TheVariants.{Ended}
 use Rattle.state_defs.specs.declared.state.HintState.{HintState}
 use Rattle.state_defs.specs.declared.state.HintState.TheVariants.{Set, Save, Restore}
 use Rattle.state_defs.specs.State.{initial, IsConsistent}
@@ -15,7 +16,7 @@ use Rattle.state_defs.specs.Move.{move}
 use Rattle.state_defs.specs.Sound.{MoveIsConsistent}
 use Rattle.machine_defs.specs.Program.{Program, IsPoint, entry_points, below}
 use Rattle.machine_defs.specs.IsProgram.{IsProgram}
-use Rattle.machine_defs.specs.Kept.{edges_of, moved, brought_along, Brings, brought_from, brought, is_at_entry, first_state, later_state, kept_or, state_at, Kept, is_free}
+use Rattle.machine_defs.specs.Kept.{edges_of, moved, loses_stack, loosened, moved_at, brought_along, Brings, brought_from, brought, is_at_entry, first_state, later_state, kept_or, state_at, Kept, is_free}
 use Rattle.machine_defs.specs.Broken.{IsAccepted, mismatch}
 use Rattle.machine_defs.proofs.KeptLemmas.{kept_is_one}
 use Rattle.unwinding_law.proofs.Lists.{here, there, cases, nowhere, in_filter, from_filter, found, in_flat_map, from_flat_map, in_below, from_below}
@@ -42,12 +43,22 @@ pub moved_ok : (r : Result State ℕ) (t : State) → Contains (moved r) t → r
 moved_ok (Ok s) t c = elim (cases s [] t c) [ inl e ↦ ap Ok e | inr d ↦ nowhere t d ]
 moved_ok (Err n) t c = nowhere t c
 
-pub brought_moves : (s : State) (op : Op) (kind : EdgeKind) (t : State) → Contains (brought_along s op kind) t → (s ≡ t) ⊎ (move s op ≡ Ok t)
-brought_moves s op Next t c = inr (moved_ok (move s op) t c)
-brought_moves s op Taken t c = inr (moved_ok (move s op) t c)
-brought_moves s op Fixup t c = elim (cases s [] t c) [ inl e ↦ inl e | inr d ↦ nowhere t d ]
-brought_moves s op Table t c = inr (moved_ok (move s op) t c)
-brought_moves s op Sibling t c = nowhere t c
+pub brought_moves : (s : State) (after : Result State ℕ) (kind : EdgeKind) (t : State) → Contains (brought_along s after kind) t → (s ≡ t) ⊎ (after ≡ Ok t)
+brought_moves s after Next t c = inr (moved_ok after t c)
+brought_moves s after Taken t c = inr (moved_ok after t c)
+brought_moves s after Fixup t c = elim (cases s [] t c) [ inl e ↦ inl e | inr d ↦ nowhere t d ]
+brought_moves s after Table t c = inr (moved_ok after t c)
+brought_moves s after Sibling t c = nowhere t c
+
+-- the move of a loose point is that of its instruction, or the stack is lost
+pub moved_at_kept : (loose : Bool) (r : Result State ℕ) (t : State) → loosened loose r ≡ Ok t → (r ≡ Ok t) ⊎ (t ≡ Ended Undefined)
+moved_at_kept false r t e = inl e
+moved_at_kept true (Ok s) t e = inl e
+moved_at_kept true (Err rule) t e = lost (loses_stack rule) e
+  where
+    lost : (b : Bool) → if◌then◌else◌ {A = Result State ℕ} b (Ok (Ended Undefined)) (Err rule) ≡ Ok t → ◌⊎◌ (Err rule ≡ Ok t) (t ≡ Ended Undefined)
+    lost true e = inr (let k : t ≡ Ended Undefined = cc in k)
+    lost false e = inl e
 
 initial_consistent : IsConsistent initial
 initial_consistent = record { fp = λ m e. absurd (let k : ⊥ = cc in k); aligned = λ e. absurd (let k : ⊥ = cc in k); saved = λ o e. absurd (let k : ⊥ = cc in k); same = λ e. omega arith }
@@ -116,18 +127,18 @@ module _ (p : Program) where
       let k = brought_kept a q s t point kept brings u f in
       subst (λ (z : State). Kept p q z) (sym (state_stable t k.0 (λ ne. acc _ _ _ _ (mismatch a q s t k.0 kept brings k.1 f ne)))) k.1
 
-  pub brings_along : (a : ℕ) (s : State) (e : Edge) (t : State) → Contains (edges_of p a) e → Contains (brought_along s (p.insn a).op e.kind) t → Brings p a s e.to t
-  brings_along a s e t c d = in_flat_map (λ (e : Edge). brought_along s (p.insn a).op e.kind) (filter (λ (x : Edge). x.to == e.to) (edges_of p a)) e t (in_filter (λ (x : Edge). x.to == e.to) (edges_of p a) e c (eq-eqb e.to e.to refl)) d
+  pub brings_along : (a : ℕ) (s : State) (e : Edge) (t : State) → Contains (edges_of p a) e → Contains (brought_along s (moved_at p a s) e.kind) t → Brings p a s e.to t
+  brings_along a s e t c d = in_flat_map (λ (e : Edge). brought_along s (moved_at p a s) e.kind) (filter (λ (x : Edge). x.to == e.to) (edges_of p a)) e t (in_filter (λ (x : Edge). x.to == e.to) (edges_of p a) e c (eq-eqb e.to e.to refl)) d
 
   -- what is brought comes along an edge
-  pub brings_edge : (a q : ℕ) (s t : State) → Brings p a s q t → (e : Edge) × Contains (edges_of p a) e × (e.to ≡ q) × Contains (brought_along s (p.insn a).op e.kind) t
+  pub brings_edge : (a q : ℕ) (s t : State) → Brings p a s q t → (e : Edge) × Contains (edges_of p a) e × (e.to ≡ q) × Contains (brought_along s (moved_at p a s) e.kind) t
   brings_edge a q s t c =
-      let r = from_flat_map (λ (e : Edge). brought_along s (p.insn a).op e.kind) (filter (λ (x : Edge). x.to == q) (edges_of p a)) t c in
+      let r = from_flat_map (λ (e : Edge). brought_along s (moved_at p a s) e.kind) (filter (λ (x : Edge). x.to == q) (edges_of p a)) t c in
       let k = from_filter (λ (x : Edge). x.to == q) (edges_of p a) r.0 r.1 in
       (r.0, k.0, eqb-true (r.0).to q k.1, r.2)
 
-  brings_moves : (a q : ℕ) (s t : State) → Brings p a s q t → (s ≡ t) ⊎ (move s (p.insn a).op ≡ Ok t)
-  brings_moves a q s t c = let r = brings_edge a q s t c in brought_moves s (p.insn a).op (r.0).kind t r.3
+  brings_moves : (a q : ℕ) (s t : State) → Brings p a s q t → (s ≡ t) ⊎ (moved_at p a s ≡ Ok t)
+  brings_moves a q s t c = let r = brings_edge a q s t c in brought_moves s (moved_at p a s) (r.0).kind t r.3
 
   -- a RESTORE has the state of its SAVE
   restore_later : (n q r : ℕ) (s : State) → p.hint q ≡ Some Restore → p.save_of q ≡ Some r → (if p.unchecked q then None else later_state p (state_at p n) q (p.hint q)) ≡ Some s → state_at p n r ≡ Some s
@@ -175,9 +186,12 @@ module _ (p : Program) where
     brought_consistent : (n q : ℕ) (s : State) → ((r : ℕ) (t : State) → IsPoint p r → state_at p n r ≡ Some t → IsConsistent t) → least (brought p (state_at p n) q) ≡ Some s → IsConsistent s
     brought_consistent n q s ih e = from (from_flat_map (λ a. brought_from p a (state_at p n a) q) (below p.count) s (least_member (brought p (state_at p n) q) s e))
       where
+        after : (a : ℕ) (t : State) → IsPoint p a → state_at p n a ≡ Some t → moved_at p a t ≡ Ok s → IsConsistent s
+        after a t point h moves = elim (moved_at_kept (p.loose a) (move t (p.insn a).op) s moves) [ inl e ↦ (keeps t s (p.insn a).op (ih a t point h) e).0 | inr e ↦ subst IsConsistent (sym e) tt ]
+
         one : (a : ℕ) → a ≡ a → IsPoint p a → (o : Option State) → state_at p n a ≡ o → Contains (brought_from p a o q) s → IsConsistent s
         one a k point None h c = nowhere s c
-        one a k point (Some t) h c = elim (brings_moves a q t s c) [ inl same ↦ subst IsConsistent same (ih a t point h) | inr moves ↦ (keeps t s (p.insn a).op (ih a t point h) moves).0 ]
+        one a k point (Some t) h c = elim (brings_moves a q t s c) [ inl same ↦ subst IsConsistent same (ih a t point h) | inr moves ↦ after a t point h moves ]
 
         from : (a : ℕ) × Contains (below p.count) a × Contains (brought_from p a (state_at p n a) q) s → IsConsistent s
         from r = one r.0 refl (from_below p.count r.0 r.1) (state_at p n r.0) refl r.2

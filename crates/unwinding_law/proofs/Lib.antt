@@ -9,6 +9,7 @@ pub mod Frames
 pub mod Landing
 pub mod Edges
 pub mod GoesOn
+pub mod ComesBack
 pub mod Passes
 pub mod Leaves
 pub mod Calls

@@ -1,16 +1,13 @@
 -- A fault, a call of code outside, and a jump to another function: the frames stay.
-use Rattle.std.proofs.Common.{◌≡◌, ◌&&◌, not, Bool, true, false, List, Option, refl, sym, ap, ◌∙◌, subst}
+use Rattle.std.proofs.Common.{◌≡◌, false, List, Option, sym, ap, ◌∙◌, subst}
 use Rattle.machine_defs.specs.declared.flow.EdgeKind.TheVariants.{Fixup}
-use Rattle.machine_defs.specs.declared.flow.Role.{Role}
-use Rattle.machine_defs.specs.declared.flow.Role.TheVariants.{CallEither, CallOut, CallAny}
 use Rattle.state_defs.specs.declared.state.EndKind.{EndKind}
 use Rattle.state_defs.specs.Frame.{Frame, listed, AreKept}
 use Rattle.state_defs.specs.Effect.{Core, StoresOrdinarily}
 use Rattle.state_defs.specs.State.{MeansTop}
-use Rattle.machine_defs.specs.Program.{Program, IsPoint, is_call, edge}
+use Rattle.machine_defs.specs.Program.{Program, IsPoint, edge}
 use Rattle.machine_defs.specs.Machine.{Bases, Standing}
 use Rattle.machine_defs.specs.Step.{SameLevel, Faults, CallsOut}
-use Rattle.machine_defs.specs.MayReturn.{may_call_out, target_may_return, is_listed}
 use Rattle.machine_defs.specs.MayReturn as may
 use Rattle.machine_defs.specs.Kept.{Kept}
 use Rattle.machine_defs.specs.Broken.{IsAccepted}
@@ -20,21 +17,11 @@ use Rattle.unwinding_law.proofs.Memory.{same_hi, spared_kept}
 use Rattle.unwinding_law.proofs.Shadow.{IsSlotChange, unchanged}
 use Rattle.unwinding_law.proofs.Frames.{frame_invariant, stays_out}
 use Rattle.unwinding_law.proofs.Landing.{IsComing}
+use Rattle.unwinding_law.proofs.ComesBack.{out_calls, call_comes_back}
 use Rattle.unwinding_law.proofs.Edges.{next_checked, fixup_checked, fixup_kept, call_next_in, past_call}
 
 pub same_frames : (fs gs : List Frame) → gs ≡ fs → IsSlotChange fs gs
 same_frames fs gs e = subst (λ (x : List Frame). IsSlotChange fs x) (sym e) (unchanged fs)
-
-passes : (b : Bool) → b ≡ true → (b && true) ≡ true
-passes true e = refl
-passes false e = absurd (let k : ⊥ = cc in k)
-
--- a call of code outside is a call, whose target may return
-pub out_calls : (p : Program) (x : Role) → may_call_out p x ≡ true → (is_call x ≡ true) × (target_may_return p x ≡ true)
-out_calls p (CallOut sym) e = (refl, passes (not (p.never_returns sym)) e)
-out_calls p (CallEither entry sym) e = (refl, passes (not (is_listed p (CallEither entry sym))) e)
-out_calls p CallAny e = (refl, refl)
-out_calls p _ e = absurd (let k : ⊥ = cc in k)
 
 module _ (p : Program) (bases : Bases) (s t : Standing) (r : HasRunInvariant p s) (f : HasFrameInvariant p bases s) where
   -- where only the memory changes, outside protected slots, a kept state tells the same
@@ -66,12 +53,12 @@ module _ (p : Program) (bases : Bases) (s t : Standing) (r : HasRunInvariant p s
 
   pub calls_out_come : IsProgram p → IsAccepted p → CallsOut p s t → IsComing p bases t
   calls_out_come is acc g =
-      let call = out_calls p (p.role s.point) g.target in
+      let call = out_calls p s.point g.target in
       let next = call_next_in p is acc s.point t.point r.state r.point r.kept call.0 g.passed g.comes_back in
       let point : IsPoint p t.point = is.followers s.point t.point r.point g.comes_back in
       record {
         point = point;
         checked = next_checked p is acc s.point t.point r.state r.point r.kept next call.1;
-        frames = frames_same g.stores g.core g.level (stays_out p bases is s.point t.point r.point point (λ h. may.comes_back s.point t.point g.target g.passed next h));
+        frames = frames_same g.stores g.core g.level (stays_out p bases is s.point t.point r.point point (call_comes_back p is s.point t.point r.point g.passed next call.0 call.1));
         told = λ free. told_same g.stores g.core g.level point (past_call p is acc s.point t.point r.state r.point r.kept call.0 call.1 next free);
       }

@@ -74,7 +74,7 @@ module _ (c d : Core) where
   effect_shape PushBp e = along c.shadow d.shadow _ (ap (λ (x : Core). x.shadow) e.1) (saved c.rbp _ c.shadow)
   effect_shape Pop e = same_shadow c d (ap (λ (x : Core). x.shadow) e.1)
   effect_shape PopBp e = along c.shadow d.shadow _ (ap (λ (x : Core). x.shadow) e.1) (with_slot (popped_slot c.rsp) (popped_kind c.rsp) c.shadow)
-  effect_shape Popf e = same_shadow c d (ap (λ (x : Core). x.shadow) e)
+  effect_shape Popf e = same_shadow c d (ap (λ (x : Core). x.shadow) e.1)
   effect_shape (AddSp by) e = same_shadow c d (ap (λ (x : Core). x.shadow) e)
   effect_shape (AndSp mask) e = same_shadow c d (ap (λ (x : Core). x.shadow) e)
   effect_shape (LeaSpBp by) e = same_shadow c d (ap (λ (x : Core). x.shadow) e)
@@ -115,7 +115,7 @@ module _ (c d : Core) where
   effect_hi PushBp e = same_hi c.region d.region e.0.only.addresses
   effect_hi Pop e = same_hi c.region d.region e.0.addresses
   effect_hi PopBp e = ap (λ (x : Core). hi_of x.region) e.1
-  effect_hi Popf e = ap (λ (x : Core). hi_of x.region) e
+  effect_hi Popf e = ap (λ (x : Core). hi_of x.region) e.1
   effect_hi (AddSp by) e = ap (λ (x : Core). hi_of x.region) e
   effect_hi (AndSp mask) e = ap (λ (x : Core). hi_of x.region) e
   effect_hi (LeaSpBp by) e = ap (λ (x : Core). hi_of x.region) e

@@ -1,5 +1,5 @@
 -- Each start of a run is in order.
-use Rattle.std.proofs.Common.{◌≡◌, ℕ, ◌+◌, ◌-◌, ◌^◌, ◌<◌, ◌≤◌, Bool, true, false, List, [], ◌∷◌, Option, Some, None, MatchBool, All, refl, sym, ap, ◌∙◌, subst, inl, arith, le_of_eq}
+use Rattle.std.proofs.Common.{◌≡◌, ℕ, ◌+◌, ◌-◌, ◌^◌, ◌<◌, ◌≤◌, Bool, true, false, List, [], ◌∷◌, Option, Some, None, MatchBool, All, refl, sym, ap, ◌∙◌, subst, arith, le_of_eq}
 use Rattle.std.proofs.lemmas.List.Elements.{All-nil, All-cons}
 use Rattle.state_defs.specs.declared.state.EndKind.{EndKind}
 use Rattle.state_defs.specs.declared.state.State.{State}
@@ -12,7 +12,7 @@ use Rattle.state_defs.specs.Effect.{IsInStack}
 use Rattle.state_defs.specs.State.{initial, MeansTop}
 use Rattle.machine_defs.specs.Program.{Program, IsPoint}
 use Rattle.machine_defs.specs.Machine.{Bases, Standing, At, IsOutside}
-use Rattle.machine_defs.specs.Run.{outermost, WasCalled, IsAtEntry, StartsFrom, Start, at_entry, at_call_hint, at_regs_hint, at_end_hint}
+use Rattle.machine_defs.specs.Run.{outermost, MayStart, WasCalled, IsAtEntry, StartsFrom, Start, at_entry, at_call_hint, at_regs_hint, at_end_hint}
 use Rattle.machine_defs.specs.Kept.{is_free, Kept}
 use Rattle.machine_defs.specs.IsProgram.{IsProgram}
 use Rattle.machine_defs.specs.Law.{AreMarksKept, AreFrames, HasRunInvariant, HasFrameInvariant, IsInOrder}
@@ -85,6 +85,13 @@ module _ (p : Program) (bases : Bases) where
   hinted : (t : Standing) (s : State) → p.hint t.point ≡ Some (Set s) → is_free (p.hint t.point) ≡ true → HasRunInvariant p t
   hinted t s h free = absurd (let e : is_free (p.hint t.point) ≡ false = ap is_free h in let k : ⊥ = cc in k)
 
+  -- a start at a hint stands at a checked point
+  start_point : IsProgram p → {state : State} → {q : ℕ} → MayStart p state q → IsPoint p q
+  start_point is {state} {q} may = is.arrivals (p.place may.plain_point) q may.arrives
+
+  start_checked : IsProgram p → {state : State} → {q : ℕ} → MayStart p state q → p.unchecked q ≡ false
+  start_checked is {state} {q} may = (is.arrives_owned may.plain_point q may.point may.plain may.arrives).1 ∙ may.checked
+
   pub start_in_order : IsProgram p → (s : Standing) → Start p bases s → IsInStack s.core → IsInOrder p bases (At s)
   start_in_order is s (at_entry t s2 f entry c d called e from) stack =
       let point = is.arrivals (p.place entry) t.point d in
@@ -95,23 +102,23 @@ module _ (p : Program) (bases : Bases) where
         frames = called_frame t s from called;
         told = λ free. at_entry_told t s f from called e (stack_before t s from stack) point (entry_kept p t.point entry checked free c d);
       }) from
-  start_in_order is s (at_call_hint t s2 depth fp bp may h called from) stack =
-      from_coming t s (record { point = may.point; checked = may.checked; frames = called_frame t s from called; told = hinted t (Live depth fp bp) h }) from
-  start_in_order is s (at_regs_hint t s2 full depth may h was from) stack =
+  start_in_order is s (at_call_hint t s2 depth fp bp may called from) stack =
+      from_coming t s (record { point = start_point is may; checked = start_checked is may; frames = called_frame t s from called; told = hinted t (Live depth fp bp) may.counts }) from
+  start_in_order is s (at_regs_hint t s2 full depth may was from) stack =
       from_coming t s (record {
-        point = may.point;
-        checked = may.checked;
+        point = start_point is may;
+        checked = start_checked is may;
         frames = one_frame t s was.ra was.cfa was.bp was.slot from was.shadow (subst (λ (b : Bool). MatchBool b (IsOutside p bases (down was.ra 1)) (IsOutside p bases was.ra)) (sym was.of_interrupt) was.outside) was.below_hi;
-        told = hinted t (Regs full depth) h;
+        told = hinted t (Regs full depth) may.counts;
       }) from
-  start_in_order is s (at_end_hint t s2 kind may h empty from) stack =
+  start_in_order is s (at_end_hint t s2 kind may empty from) stack =
       from_coming t s (record {
-        point = may.point;
-        checked = may.checked;
+        point = start_point is may;
+        checked = start_checked is may;
         frames = record {
           frames = subst (λ (x : List Frame). AreFrames p bases t.point x) (sym empty) (law.none t.point);
           below_hi = subst (λ (x : List Frame). All (λ (y : Frame). y.cfa ≤ hi_of t.core.region) x) (sym empty) (All-nil (λ (y : Frame). y.cfa ≤ hi_of t.core.region));
           mark = subst (λ (x : Option Mark). AreMarksKept p x t.core.shadow) (sym from.mark) tt;
         };
-        told = hinted t (Ended kind) h;
+        told = hinted t (Ended kind) may.counts;
       }) from

@@ -70,7 +70,7 @@ program = record {
   checked = λ q e h u c k. refl;
   unowned = λ q point e. refl;
   entries_checked = λ entry q c d. refl;
-  arrives_alone = λ q r point v out c. stands q r point c;
+  arrives_owned = λ q r point v c. (refl, refl);
   calls_entry = λ q entry point e. absurd (no_call_of q (CallIn entry) refl e);
   calls_weak_entry = λ q entry symbol point e. absurd (no_call_of q (CallEither entry symbol) refl e);
   siblings = λ q r point c. absurd (let k : Sibling ≡ Next = ap (λ (e : Edge). e.kind) (one_edge q (edge r Sibling) c) in let m : ⊥ = cc in m);
@@ -112,7 +112,7 @@ pushes : Run unbalanced base (At at_return)
 pushes =
     run.goes unbalanced base w.at_entry at_return Next (run.called unbalanced base 0 0 0 (0, lit< tt, refl) (0, lit< tt, refl) refl (lit< tt) outside) refl (0, lit< tt, refl)
     (record { addresses = record { lo = refl; size = refl }; others = λ address h. refl }, refl)
-    (record { ended = refl; mark = refl }) refl (run.in_zeros 0x8000 0 at_return.core.shadow (lit≤ tt) (lit≤ tt) (lit< tt))
+    refl (record { ended = refl; mark = refl }) refl (run.in_zeros 0x8000 0 at_return.core.shadow (lit≤ tt) (lit≤ tt) (lit< tt))
 
 pub wrecked : Run unbalanced base Wrecked
 wrecked = stepped (At at_return) Wrecked pushes (wrecks at_return (wrong_return refl refl (other_depth (caller Unsaved) [] (λ e. let k : 0x8000 ≡ 0x8008 = e in absurd (omega arith))))) tt

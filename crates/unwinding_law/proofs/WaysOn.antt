@@ -1,7 +1,7 @@
 -- What follows from how ways lead on from a point.
-use Rattle.std.proofs.Common.{◌≡◌, ℕ, ◌&&◌, ◌||◌, not, Bool, true, false, if◌then◌else◌, List, [], ◌∷◌, Option, Some, None, is_some, is_none, Contains, refl, sym, ap, ◌∙◌, subst}
+use Rattle.std.proofs.Common.{◌≡◌, ℕ, ◌&&◌, ◌||◌, not, Bool, true, false, if◌then◌else◌, List, [], ◌∷◌, Option, Some, None, is_some, is_none, Contains, refl, ap}
 use Rattle.std.specs.List.{list_any, list_all}
-use Rattle.std.proofs.lemmas.Bool.{and_parts, or_parts}
+use Rattle.std.proofs.lemmas.Bool.{or_parts}
 use Rattle.operation_defs.specs.declared.op.Op.{Op}
 use Rattle.operation_defs.specs.declared.op.Op.TheVariants.{SubSp, SpReg, RetImm}
 use Rattle.machine_defs.specs.declared.flow.Edge.{Edge}
@@ -17,11 +17,10 @@ use Rattle.state_defs.specs.State.{ended_by, MeansTop}
 use Rattle.state_defs.specs.Rules.{is_initial, return_rule, sibling_rule, is_followed}
 use Rattle.machine_defs.specs.Program.{Program, entry_points, is_call_op, edge, is_local}
 use Rattle.machine_defs.specs.Kept.{can_go, edges_of, is_free}
-use Rattle.machine_defs.specs.Ways.{is_fixup, is_sibling, is_before_hint, is_call_hint, MayCall, leads_out, drops_bytes, may_leave}
+use Rattle.machine_defs.specs.Ways.{is_fixup, is_next, is_sibling, is_before_hint, is_call_hint, MayCall, leads_out, drops_bytes, may_leave}
 use Rattle.machine_defs.specs.Machine.{Standing}
 use Rattle.machine_defs.specs.Step.{as_any_write, op_at, is_in_interrupt, ends_run}
-use Rattle.machine_defs.specs.IsProgram.{IsProgram}
-use Rattle.unwinding_law.proofs.Lists.{each_passes, found, in_filter}
+use Rattle.unwinding_law.proofs.Lists.{each_passes, in_filter}
 
 -- along a local edge, to where states come in along edges, no hint follows right behind
 local_no_fixup : (kind : EdgeKind) → is_local kind ≡ true → is_fixup kind ≡ false
@@ -63,27 +62,18 @@ acts_as_it_is p s live h = ap (λ (b : Bool). if b then as_any_write (p.insn s.p
     both : (is_some s.ended || is_before_hint p s.point) ≡ false
     both = rw (live, h) refl
 
--- a point that may leave has no way to another function of the program, and drops no bytes
-pub sibling_edge_stays : (p : Program) (a q : ℕ) → Contains (edges_of p a) (edge q Sibling) → may_leave p a ≡ false
-sibling_edge_stays p a q along =
-    let any : list_any (λ e. is_sibling e.kind) (edges_of p a) ≡ true = found (λ e. is_sibling e.kind) (edges_of p a) (edge q Sibling) along refl in
-    last (is_none (p.owner a)) (leads_out (p.role a)) (not (drops_bytes (p.insn a).op)) (list_any (λ e. is_sibling e.kind) (edges_of p a)) any
+-- a return that drops bytes names nothing, so it may not leave
+pub dropping_stays : (p : Program) (a : ℕ) → (p.insn a).op ≡ RetImm → p.names a ≡ None → may_leave p a ≡ false
+dropping_stays p a op named =
+    third (is_none (p.owner a) || p.loose a) (leads_out (p.role a)) (drops_bytes (p.insn a).op) (not (list_any (λ e. is_sibling e.kind) (edges_of p a))) (is_some (p.names a))
+    (list_any (λ e. is_sibling e.kind) (edges_of p a) && list_all (λ e. is_sibling e.kind || is_next e.kind) (edges_of p a)) (ap drops_bytes op) (ap is_some named)
   where
-    last : (x y z w : Bool) → w ≡ true → (x && (y && (z && not w))) ≡ false
-    last false y z w e = refl
-    last true false z w e = refl
-    last true true false w e = refl
-    last true true true true e = refl
-    last true true true false e = absurd (let k : ⊥ = cc in k)
-
-pub dropping_stays : (p : Program) (a : ℕ) → (p.insn a).op ≡ RetImm → may_leave p a ≡ false
-dropping_stays p a op = third (is_none (p.owner a)) (leads_out (p.role a)) (drops_bytes (p.insn a).op) (not (list_any (λ e. is_sibling e.kind) (edges_of p a))) (ap drops_bytes op)
-  where
-    third : (x y z w : Bool) → z ≡ true → (x && (y && (not z && w))) ≡ false
-    third false y z w e = refl
-    third true false z w e = refl
-    third true true true w e = refl
-    third true true false w e = absurd (let k : ⊥ = cc in k)
+    third : (x y z w u v : Bool) → z ≡ true → u ≡ false → (x && ((y && (not z && w)) || (u && v))) ≡ false
+    third false y z w u v e f = refl
+    third true false z w false v e f = refl
+    third true true true w false v e f = refl
+    third true true false w u v e f = absurd (let k : ⊥ = cc in k)
+    third x y z w true v e f = absurd (let k : ⊥ = cc in k)
 
 -- where a way out is followed, nothing has ended and the frame is a call's, if the point may leave
 pub record IsFollowed (s : Standing) : Type 0 where
@@ -133,15 +123,12 @@ is_followed_live (Live d m b) e = refl
 is_followed_live (Ended k) e = absurd (let z : ⊥ = cc in z)
 is_followed_live (Regs full d) e = refl
 
--- control that comes to what code of no function may call stands there, where a hint tells everything
-pub called_alone : (p : Program) → IsProgram p → (a entry q : ℕ) → MayCall p a entry → Contains (entry_points p entry) q → q ≡ entry
-called_alone p is a entry q may c = is.arrives_alone entry q may.point may.plain may.outside c
-
+-- where control comes to what code of no function may call, a hint tells everything
 call_hint_tells : (h : Option HintState) → is_call_hint h ≡ true → is_free h ≡ false
 call_hint_tells None e = absurd (let k : ⊥ = cc in k)
 call_hint_tells (Some (Set s)) e = refl
 call_hint_tells (Some Save) e = absurd (let k : ⊥ = cc in k)
 call_hint_tells (Some Restore) e = absurd (let k : ⊥ = cc in k)
 
-pub called_is_told : (p : Program) (a entry q : ℕ) → MayCall p a entry → q ≡ entry → is_free (p.hint q) ≡ false
-called_is_told p a entry q may e = subst (λ (x : ℕ). is_free (p.hint x) ≡ false) (sym e) (call_hint_tells (p.hint entry) may.hinted)
+pub called_is_told : (p : Program) (a entry q : ℕ) → MayCall p a entry → Contains (entry_points p entry) q → is_free (p.hint q) ≡ false
+called_is_told p a entry q may c = call_hint_tells (p.hint q) (may.hinted q c).1

@@ -15,11 +15,11 @@ use Rattle.state_defs.specs.declared.state.HintState.{HintState}
 use Rattle.state_defs.specs.declared.state.HintState.TheVariants.{Set}
 use Rattle.state_defs.specs.Effect.{HasSignedNumber}
 use Rattle.state_defs.specs.State.{IsConsistent}
-use Rattle.machine_defs.specs.Program.{Site, below, in_site, entry_points, is_call, is_call_op, edge}
-use Rattle.machine_defs.specs.MayReturn.{MayReturn, may_call_out}
+use Rattle.machine_defs.specs.Program.{below, entry_points, is_call, is_call_op, edge}
+use Rattle.machine_defs.specs.MayReturn.{MayReturn}
 use Rattle.machine_defs.specs.MayReturn as may
 use Rattle.machine_defs.specs.IsProgram.{IsProgram, HintsStandAtPoints}
-use Rattle.unwinding_law.specs.Worked.{place_at, point, site, worked, interrupted}
+use Rattle.unwinding_law.specs.Worked.{place_at, point, worked, interrupted}
 use Rattle.unwinding_law.proofs.Elements.{each, none, one, two}
 use Rattle.unwinding_law.proofs.Lists.{here, cases, nowhere, from_filter, from_below}
 
@@ -176,21 +176,45 @@ call_next q r e c = go (subst (λ (x : ℕ). Contains (worked.after x) r) zero_i
 consistent : (q : ℕ) (s : State) → worked.hint q ≡ Some (Set s) → IsConsistent s
 consistent q s e = let k : Set interrupted ≡ Set s = (one_hint q (Set s) e).1 in let m : interrupted ≡ s = cc in subst IsConsistent m (omega arith)
 
--- outside its site control that comes to a plain point stands there
-alone : (q r : ℕ) → Contains (q ∷ []) r → r ≡ q
-alone q r c = elim (cases q [] r c) [ inl e ↦ sym e | inr d ↦ nowhere r d ]
+-- control that comes to a plain point may stand at it, and stands where it runs, in code of its owner
+pub record StandsWhere (q r : ℕ) : Type 0 where
+  pub owner : worked.owner r ≡ worked.owner q
+  pub address : worked.address r ≡ worked.place q
 
-abbrev StandsAt : ℕ → Type 0
-StandsAt q = worked.variant q ≡ 0 → ((s : Site) → Contains worked.sites s → in_site s (worked.place q) ≡ false) → (r : ℕ) → Contains (entry_points worked q) r → r ≡ q
+pub record Arrives (q : ℕ) : Type 0 where
+  pub itself : Contains (entry_points worked q) q
+  pub each_there : (r : ℕ) → Contains (entry_points worked q) r → StandsWhere q r
 
-in_its_site : StandsAt 0
-in_its_site v out r c = absurd (let k : true ≡ false = out site (here site []) in let z : ⊥ = cc in z)
+abbrev pub ArrivesAt : ℕ → Type 0
+ArrivesAt q = q < 11 → worked.variant q ≡ 0 → Arrives q
+
+-- outside its site it stands there alone
+alone : (q : ℕ) → worked.address q ≡ worked.place q → Contains (q ∷ []) q × ((r : ℕ) → Contains (q ∷ []) r → StandsWhere q r)
+alone q at = (here q [], λ r c. elim (cases q [] r c) [ inl e ↦ subst (λ (x : ℕ). StandsWhere q x) e (record { owner = refl; address = at }) | inr d ↦ nowhere r d ])
+
+at_site : Arrives 0
+at_site = record {
+  itself = here 0 (9 ∷ []);
+  each_there = λ r c. elim (cases 0 (9 ∷ []) r c) [
+    | inl e ↦ subst (λ (x : ℕ). StandsWhere 0 x) e (record { owner = refl; address = refl })
+    | inr d ↦ elim (cases 9 [] r d) [ inl e ↦ subst (λ (x : ℕ). StandsWhere 0 x) e (record { owner = refl; address = refl }) | inr none ↦ nowhere r none ]
+  ];
+}
 
 of_replacement : {P : Type 0} → ◌≡◌ {A = ℕ} 1 0 → P
 of_replacement e = absurd (omega (arith, e))
 
-stands : (q : ℕ) → StandsAt q
-stands = each StandsAt in_its_site (λ v out r c. alone 1 r c) (λ v out r c. alone 2 r c) (λ v out r c. alone 3 r c) (λ v out r c. alone 4 r c) (λ v out r c. alone 5 r c) (λ v out r c. alone 6 r c) (λ v out r c. alone 7 r c) (λ v out r c. alone 8 r c) (λ v out r c. of_replacement v) (λ v out r c. of_replacement v) (λ q v out r c. nowhere r c)
+pub arrives_at : (q : ℕ) → ArrivesAt q
+arrives_at =
+    each ArrivesAt (λ below v. at_site) (λ below v. record { itself = (alone 1 refl).0; each_there = (alone 1 refl).1 })
+    (λ below v. record { itself = (alone 2 refl).0; each_there = (alone 2 refl).1 })
+    (λ below v. record { itself = (alone 3 refl).0; each_there = (alone 3 refl).1 })
+    (λ below v. record { itself = (alone 4 refl).0; each_there = (alone 4 refl).1 })
+    (λ below v. record { itself = (alone 5 refl).0; each_there = (alone 5 refl).1 })
+    (λ below v. record { itself = (alone 6 refl).0; each_there = (alone 6 refl).1 })
+    (λ below v. record { itself = (alone 7 refl).0; each_there = (alone 7 refl).1 })
+    (λ below v. record { itself = (alone 8 refl).0; each_there = (alone 8 refl).1 })
+    (λ below v. of_replacement v) (λ below v. of_replacement v) (λ q below v. absurd (omega (arith, below)))
 
 -- so it is a program
 pub program : IsProgram worked
@@ -202,7 +226,7 @@ program = record {
   checked = λ q e point u c k. refl;
   unowned = λ q point e. refl;
   entries_checked = λ entry q c d. refl;
-  arrives_alone = λ q r point v out c. stands q v out r c;
+  arrives_owned = λ q r point v c. (((arrives_at q point v).each_there r c).owner, refl);
   calls_entry = λ q entry point e. inl (call_in q entry e);
   calls_weak_entry = λ q entry symbol point e. absurd (no_weak_call q entry symbol e);
   siblings = λ q r point c. (4, (1, lit< tt, refl), subst (λ (x : ℕ). Contains (entry_points worked 4) x) (sym (one_tail q r c).1) (0, lit< tt, refl));

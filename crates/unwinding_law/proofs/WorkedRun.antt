@@ -45,4 +45,4 @@ pub runs : Run worked base (At after_push)
 runs =
     run.goes worked base at_entry after_push Next (run.called worked base 4 4 0 (1, lit< tt, refl) (0, lit< tt, refl) refl (lit< tt) outside) refl (0, lit< tt, refl)
     (record { only = record { addresses = record { lo = refl; size = refl }; others = λ address h. refl }; word = refl }, refl)
-    (record { ended = refl; mark = refl }) refl (run.in_zeros 0x8000 0 after_push.core.shadow (lit≤ tt) (lit≤ tt) (lit< tt))
+    refl (record { ended = refl; mark = refl }) refl (run.in_zeros 0x8000 0 after_push.core.shadow (lit≤ tt) (lit≤ tt) (lit< tt))

@@ -1,5 +1,5 @@
 -- No state in order has its stack wrecked next.
-use Rattle.std.proofs.Common.{◌≡◌, ◌≢◌, ℕ, ◌+◌, ◌-◌, ◌^◌, ◌<◌, ◌≤◌, ◌++◌, true, false, List, [], ◌∷◌, Option, None, All, flat_map, pos, refl, sym, ap, ◌∙◌, subst, inl, inr, arith}
+use Rattle.std.proofs.Common.{◌≡◌, ◌≢◌, ℕ, ◌+◌, ◌-◌, ◌^◌, ◌<◌, ◌≤◌, ◌++◌, true, false, List, [], ◌∷◌, Option, None, All, flat_map, pos, refl, sym, ap, ◌∙◌, subst, arith}
 use Rattle.std.proofs.lemmas.List.Elements.{All-head, All-tail}
 use Rattle.state_defs.specs.declared.state.EndKind.{EndKind}
 use Rattle.state_defs.specs.declared.state.State.{State}
@@ -12,7 +12,7 @@ use Rattle.state_defs.specs.State.{initial, ended_by, MeansTop}
 use Rattle.machine_defs.specs.Program.{Program}
 use Rattle.machine_defs.specs.Machine.{Standing}
 use Rattle.machine_defs.specs.Ways.{may_leave}
-use Rattle.machine_defs.specs.Step.{ends_run, MissesReturn, no_return, return_in_interrupt, other_return, other_depth, other_rbp, MissesIret, no_interrupt, iret_in_call, other_address, other_rsp, other_interrupted_rbp, Wrecks, wrong_return, wrong_iret, drops_bytes, bad_target, into_site, into_function, past_end}
+use Rattle.machine_defs.specs.Step.{ends_run, MissesReturn, return_in_interrupt, other_return, other_depth, other_rbp, MissesIret, iret_in_call, other_address, other_rsp, other_interrupted_rbp, Wrecks, wrong_return, wrong_iret, drops_bytes, bad_target, into_site, into_function, past_end}
 use Rattle.machine_defs.specs.Broken.{IsAccepted}
 use Rattle.machine_defs.specs.Broken as broken
 use Rattle.machine_defs.specs.IsProgram.{IsProgram}
@@ -98,8 +98,8 @@ module _ (p : Program) (is : IsProgram p) (acc : IsAccepted p) (s : Standing) (r
       let e = at_iret p acc s.point r.state r.kept op (sym r.ended ∙ live) in
       ready_to_iret s.core s.core.shadow stack (means_state (Regs false (pos 0)) e) (live_slots live) misses
   not_wrecked (drops_bytes op) =
-      let role = is.returns s.point r.point op in
-      acc _ _ _ _ (broken.drops_bytes s.point r.state r.kept role op (λ h. acc _ _ _ _ (broken.unallowed_return s.point r.state r.kept role h (dropping_stays p s.point op))))
+      let both = is.returns s.point r.point op in
+      acc _ _ _ _ (broken.drops_bytes s.point r.state r.kept both.0 op (λ h. acc _ _ _ _ (broken.unallowed_return s.point r.state r.kept both.0 h (dropping_stays p s.point op both.1))))
   not_wrecked (bad_target e) = acc _ _ _ _ (broken.bad_target s.point r.state r.kept e)
   not_wrecked (into_site e) = acc _ _ _ _ (broken.into_site s.point r.state r.kept e)
   not_wrecked (into_function e) = acc _ _ _ _ (broken.into_function s.point r.state r.kept e)

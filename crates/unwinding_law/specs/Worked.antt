@@ -98,11 +98,16 @@ worked = record {
   owner = λ q. (point q).owner;
   unchecked = λ _. false;
   in_patches = λ _. false;
+  loose = λ _. false;
+  uncovered = λ _. false;
   previous = λ q. slice_index_or (None ∷ Some 0 ∷ Some 1 ∷ Some 2 ∷ Some 3 ∷ Some 4 ∷ Some 5 ∷ Some 6 ∷ []) q None;
   hint = λ q. slice_index_or (None ∷ None ∷ None ∷ None ∷ None ∷ None ∷ None ∷ Some (Set interrupted) ∷ []) q None;
+  own_hint = λ q. q == 7;
   save_of = λ _. None;
   goes = λ q. (point q).goes;
   role = λ q. (point q).role;
+  names = λ _. None;
+  marked_call = λ _. false;
   dead_end = λ _. false;
   marks = λ q. record { bad = false; past_end = slice_index_or (false ∷ false ∷ false ∷ false ∷ false ∷ false ∷ false ∷ false ∷ true ∷ []) q false; into_site = false; into_function = false; relocated = false };
   after = λ q. (point q).after;
@@ -114,6 +119,7 @@ worked = record {
   sites = site ∷ [];
   texts = record { sec = 1; size = 21 } ∷ record { sec = 2; size = 1 } ∷ [];
   unsized = [];
+  linked = false;
 }
 
 -- the states that are kept: behind the push rbp is saved, and all of f is as at its entry; section 2's own code isn't
