@@ -2,12 +2,11 @@
 use Rattle.std.proofs.Common.{◌≡◌, ℕ, ◌+◌, ◌-◌, ◌<◌, Bool, true, List, [], ◌++◌, Some, filter, slice_get, inl, inr, ap, sym, subst, ◌∙◌}
 use Rattle.std.specs.List.{range_with_len, flat_map}
 use Rattle.special_sections.specs.declared.fault.SpecialFault.{SpecialFault}
+use Rattle.ot_base.specs.NameLists.{NameLists}
 use Rattle.elf_objects.specs.Elf.{Elf}
-use Rattle.special_sections.specs.Kinds.{faults}
-use Rattle.special_sections.specs.PlaceLists as lists
 use Rattle.special_sections.specs.Reasons.{TellsFirst}
 use Rattle.special_sections.specs.RightTables.{HasRightTables}
-use Rattle.special_sections.specs.Special.{special_faults}
+use Rattle.special_sections.specs.Special.{list_faults, special_faults}
 use Rattle.special_sections.proofs.Gathered.{range_split, passing_split, first_gathered, first_in_front}
 
 pub tells_within : (part whole : List SpecialFault) (told : SpecialFault) → ((x : SpecialFault) → slice_get part 0 ≡ Some x → slice_get whole 0 ≡ Some x) → TellsFirst part told → TellsFirst whole told
@@ -35,13 +34,9 @@ tells_behind front rest told none tells = subst (λ (fs : List SpecialFault). Te
 pub none_in_both : (front rest : List SpecialFault) → front ≡ [] → rest ≡ [] → front ++ rest ≡ []
 none_in_both front rest none others = ap (λ fs. fs ++ rest) none ∙ others
 
--- the faults of the lists of places, in order
-abbrev pub list_faults : Elf → List SpecialFault
-list_faults o = faults lists.after_reachable o ++ (faults lists.after_unreachable o ++ (faults lists.unchecked o ++ (faults lists.safe_branches o ++ faults lists.intra_calls o)))
+-- the first fault of the lists is the first of all, where the tables have none
+pub tells_behind_tables : (o : Elf) (names : NameLists) (told : SpecialFault) → HasRightTables o names → TellsFirst (list_faults o) told → TellsFirst (special_faults o names) told
+tells_behind_tables o names told right tells = tells_behind _ _ told right.alternatives (tells_behind _ _ told right.branches (tells_behind _ _ told right.fixes (tells_behind _ _ told right.hints tells)))
 
--- the first of these is the first of all, where the tables have none
-pub tells_behind_tables : (o : Elf) (told : SpecialFault) → HasRightTables o → TellsFirst (list_faults o) told → TellsFirst (special_faults o) told
-tells_behind_tables o told right tells = tells_behind _ _ told right.alternatives (tells_behind _ _ told right.branches (tells_behind _ _ told right.fixes (tells_behind _ _ told right.hints tells)))
-
-pub none_behind_tables : (o : Elf) → HasRightTables o → list_faults o ≡ [] → special_faults o ≡ []
-none_behind_tables o right none = none_in_both _ _ right.alternatives (none_in_both _ _ right.branches (none_in_both _ _ right.fixes (none_in_both _ _ right.hints none)))
+pub none_behind_tables : (o : Elf) (names : NameLists) → HasRightTables o names → list_faults o ≡ [] → special_faults o names ≡ []
+none_behind_tables o names right none = none_in_both _ _ right.alternatives (none_in_both _ _ right.branches (none_in_both _ _ right.fixes (none_in_both _ _ right.hints none)))

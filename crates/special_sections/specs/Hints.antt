@@ -1,7 +1,8 @@
 -- The entries of `.discard.unwind_hints` (Linux 6.6, `struct unwind_hint` of objtool_types.h; the types are those of
 -- orc_types.h and objtool_types.h).
-use Rattle.std.specs.Prelude.{ℕ, ◌+◌, ◌*◌, ◌==◌, ◌||◌, ◌&&◌, not, nat_lt, Bool, [], ◌∷◌, Option, slice_index, int_lt, pos, codes, if◌then◌else◌}
+use Rattle.std.specs.Prelude.{ℕ, ◌+◌, ◌*◌, ◌==◌, ◌||◌, ◌&&◌, not, nat_lt, Bool, [], ◌∷◌, Option, None, is_some, slice_index, int_lt, pos, codes, if◌then◌else◌}
 use Rattle.std.specs.Int.{cast_signed, w16}
+use Rattle.std.specs.Option.{option_or}
 use Rattle.ot_base.specs.declared.place.Place.{Place}
 use Rattle.elf_objects.specs.Elf.{Elf}
 use Rattle.elf_objects.specs.Contents.{section_at}
@@ -46,9 +47,16 @@ has_bad_signal kind signal = (((kind == 2) || (kind == 5)) && not (signal == 0))
 abbrev pub signal_byte : Elf → ℕ → ℕ → ℕ
 signal_byte o sec at = slice_index (section_at o sec).body (at + 8)
 
--- an entry's base, offset or signal isn't one of its type
+-- why an entry's base, offset or signal isn't one of its type
+abbrev pub misfit_why : HintEntry → ℕ → Option Why
+misfit_why h signal = first_reason
+    ((has_other_base h, HintBase)
+    ∷ (has_bad_offset h, HintOffset)
+    ∷ (has_bad_signal h.kind signal, HintSignal)
+    ∷ [])
+
 abbrev pub is_misfit : HintEntry → ℕ → Bool
-is_misfit h signal = has_other_base h || (has_bad_offset h || has_bad_signal h.kind signal)
+is_misfit h signal = is_some (misfit_why h signal)
 
 -- what an entry says: of one that is written so, nothing is known of the stack (type 0, UNDEFINED)
 abbrev pub hint_from : Elf → ℕ → ℕ → HintEntry
@@ -61,14 +69,13 @@ hint_entry o sec e = hint_from o sec (12 * e)
 -- Why an entry is refused, where it is told which places are loose: at these its base, offset and signal may be any. Several may
 -- stand at one place.
 abbrev pub hint_why_from : (Place → Bool) → Elf → ℕ → ℕ → Option Why
-hint_why_from loose o sec at = let field = field_at sec at in let h = hint_written o sec at in first_reason
+hint_why_from loose o sec at = let field = field_at sec at in let h = hint_written o sec at in option_or
+    (first_reason
     ((lacks_reloc o field, NoReloc)
     ∷ (not (holds_text_place o BelowEnd field), NotText)
     ∷ (nat_lt 7 h.kind, HintType)
-    ∷ (has_other_base h && not (loose h.place), HintBase)
-    ∷ (has_bad_offset h && not (loose h.place), HintOffset)
-    ∷ (has_bad_signal h.kind (signal_byte o sec at) && not (loose h.place), HintSignal)
-    ∷ [])
+    ∷ []))
+    (if loose h.place then None else misfit_why h (signal_byte o sec at))
 
 abbrev pub hints : (Place → Bool) → EntryKind HintEntry
 hints loose = record {

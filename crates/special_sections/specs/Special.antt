@@ -44,16 +44,21 @@ special_of o = record {
   intra_calls = entries lists.intra_calls o;
 }
 
--- Their faults, in order. Entries are judged as they are written, and hints also by which code is loose: that in the bytes of
--- symbols whose names are listed so.
-abbrev pub special_faults : Elf → NameLists → List SpecialFault
-special_faults o lists =
-    faults tables.alternatives o
-    ++ (faults tables.branches o
-    ++ (faults tables.fixes o
-    ++ (faults (hint.hints (is_in_named_code o lists.loose)) o
-    ++ (faults lists.after_reachable o
+-- the faults of the lists of places, in order
+abbrev pub list_faults : Elf → List SpecialFault
+list_faults o =
+    faults lists.after_reachable o
     ++ (faults lists.after_unreachable o
     ++ (faults lists.unchecked o
     ++ (faults lists.safe_branches o
-    ++ faults lists.intra_calls o)))))))
+    ++ faults lists.intra_calls o)))
+
+-- All of their faults, in order. Entries are judged as they are written, and hints also by which code is loose: that in the bytes
+-- of symbols whose names are listed so.
+abbrev pub special_faults : Elf → NameLists → List SpecialFault
+special_faults o names =
+    faults tables.alternatives o
+    ++ (faults tables.branches o
+    ++ (faults tables.fixes o
+    ++ (faults (hint.hints (is_in_named_code o names.loose)) o
+    ++ list_faults o)))

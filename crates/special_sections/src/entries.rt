@@ -46,7 +46,8 @@ pub struct HintEntry {
     pub sp_offset: i16,
     /// The number of the base register.
     pub sp_reg: u8,
-    /// The hint's type, of [`crate::hint_type`].
+    /// The hint's type, of [`crate::hint_type`]. Where what is written of base, offset and signal fits no hint of its type, it is
+    /// 0: nothing is known of the stack.
     pub kind: u8,
     /// Whether the signal byte isn't 0.
     pub signal: bool,

@@ -3,19 +3,19 @@
 ghost use Rattle.std.specs.Prelude.{◌≡◌, [], filter, IfOk, IfErr, OnOk};
 ghost use Rattle.special_sections.specs.Fields.{is_text_place as is_in_text};
 ghost use Rattle.special_sections.specs.Reasons.{TellsFirst};
-ghost use Rattle.special_sections.specs.Special.{special_of, special_faults};
+ghost use Rattle.special_sections.specs.Special.{list_faults, special_faults, special_of};
 ghost use Rattle.special_sections.specs.RightTables.{HasRightTables};
 
 use crate::entries::{AltEntry, BranchEntry, FixEntry, HintEntry};
 use crate::fault::SpecialFault;
 use crate::fields::{Bound, is_text_place};
-use crate::hints::UnwindHints;
+use crate::hints::read_hints;
 use crate::lists::{Judged, PlaceList};
 use crate::nested::nest;
 use crate::read::read_all;
 use crate::tables::{Alternatives, Branches, Fixes};
 use elf_objects::Object;
-use ot_base::Place;
+use ot_base::{Lists, Place};
 use std::alloc::Global;
 use std::marker::Model;
 
@@ -95,19 +95,19 @@ impl Model for Special {
 }
 
 impl Tables {
-    /// The entries of the tables of an object, or the first fault of one of them.
-    fn read(alloc: Global, object: &Object<'_>) -> Result<Tables, SpecialFault>
+    /// The entries of the tables of an object under lists of names, or the first fault of one of them.
+    fn read(alloc: Global, object: &Object<'_>, lists: &Lists) -> Result<Tables, SpecialFault>
         ensures alternatives { IfOk result (λ t. t.alternatives.items ≡ (special_of object.now).alternatives) }
         ensures branches { IfOk result (λ t. t.branches.items ≡ (special_of object.now).branches) }
         ensures fixes { IfOk result (λ t. t.fixes.items ≡ (special_of object.now).fixes) }
         ensures hints { IfOk result (λ t. t.hints.items ≡ (special_of object.now).hints) }
-        ensures right { OnOk result (HasRightTables object.now) }
-        ensures err { IfErr result (TellsFirst (special_faults object.now)) }
+        ensures right { OnOk result (HasRightTables object.now lists.now) }
+        ensures err { IfErr result (TellsFirst (special_faults object.now lists.now)) }
     {
         let alternatives = read_all(alloc, object, &Alternatives)?;
         let branches = read_all(alloc, object, &Branches)?;
         let fixes = read_all(alloc, object, &Fixes)?;
-        let hints = read_all(alloc, object, &UnwindHints)?;
+        let hints = read_hints(alloc, object, lists)?;
         Ok(Tables {
             alternatives: nest(alloc, &alternatives)?,
             branches,
@@ -118,16 +118,15 @@ impl Tables {
 }
 
 impl Places {
-    /// The entries of the lists of an object whose tables have no fault, or the first fault of one of them.
+    /// The entries of the lists of an object, or the first fault of one of them.
     fn read(alloc: Global, object: &Object<'_>) -> Result<Places, SpecialFault>
-        requires { HasRightTables object.now }
         ensures after_reachable { IfOk result (λ p. p.after_reachable.items ≡ (special_of object.now).after_reachable) }
         ensures after_unreachable { IfOk result (λ p. p.after_unreachable.items ≡ (special_of object.now).after_unreachable) }
         ensures unchecked { IfOk result (λ p. p.unchecked.items ≡ (special_of object.now).unchecked) }
         ensures safe_branches { IfOk result (λ p. p.safe_branches.items ≡ (special_of object.now).safe_branches) }
         ensures intra_calls { IfOk result (λ p. p.intra_calls.items ≡ (special_of object.now).intra_calls) }
-        ensures right { OnOk result (special_faults object.now ≡ []) }
-        ensures err { IfErr result (TellsFirst (special_faults object.now)) }
+        ensures right { OnOk result (list_faults object.now ≡ []) }
+        ensures err { IfErr result (TellsFirst (list_faults object.now)) }
     {
         let after_reachable = read_all(alloc, object, &REACHABLE)?;
         let after_unreachable = read_all(alloc, object, &UNREACHABLE)?;
@@ -145,7 +144,7 @@ impl Places {
 }
 
 impl Special {
-    /// Reads the special sections of an object.
+    /// Reads the special sections of an object. Lists of names say which code is loose, where hints may be written in any way.
     ///
     /// Sections of one name are read in ascending order. Entries are refused in the order of
     /// `special_faults`: by kind, then by section, then by entry.
@@ -153,12 +152,12 @@ impl Special {
     /// # Errors
     ///
     /// The first fault in that order; [`SpecialFault::NoMemory`] may come at any object.
-    pub fn read(alloc: Global, object: &Object<'_>) -> Result<Special, SpecialFault>
+    pub fn read(alloc: Global, object: &Object<'_>, lists: &Lists) -> Result<Special, SpecialFault>
         ensures ok { IfOk result (λ special. special ≡ special_of object.now) }
-        ensures right { OnOk result (special_faults object.now ≡ []) }
-        ensures err { IfErr result (TellsFirst (special_faults object.now)) }
+        ensures right { OnOk result (special_faults object.now lists.now ≡ []) }
+        ensures err { IfErr result (TellsFirst (special_faults object.now lists.now)) }
     {
-        let tables = Tables::read(alloc, object)?;
+        let tables = Tables::read(alloc, object, lists)?;
         let places = Places::read(alloc, object)?;
         Ok(Special { tables, places })
     }
