@@ -1,5 +1,5 @@
 -- Whether two rows are equal, or two places, and whether a place lies in a site.
-use Rattle.std.proofs.Common.{◌≡◌, ◌≢◌, ℕ, ◌+◌, ◌<◌, ◌≤◌, ◌⊎◌, Bool, true, false, ◌&&◌, ℤ, leb, refl, sym, ap, ◌∙◌, inl, inr, le-leb, arith}
+use Rattle.std.proofs.Common.{◌≡◌, ◌≢◌, ℕ, ◌+◌, ◌<◌, ◌≤◌, ◌⊎◌, Bool, true, false, ℤ, leb, refl, sym, ap, ◌∙◌, inl, inr, le-leb, arith}
 use Rattle.std.specs.Prelude.{◌==◌}
 use Rattle.std.specs.Ordering.{int_eq}
 use Rattle.std.specs.Bool.{beq}

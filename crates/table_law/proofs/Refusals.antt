@@ -3,6 +3,9 @@ use Rattle.std.proofs.Common.{◌≡◌, ℕ, ◌≤◌, Bool, true, false, if�
 use Rattle.std.specs.Prelude.{Result, Ok, Err, int_lt, int_le, ◌&&◌}
 use Rattle.operation_defs.specs.declared.op.Op.{Op}
 use Rattle.operation_defs.specs.declared.op.Op.TheVariants.{PushBp, Pop, PopBp, Popf, AddSp, AndSp, LeaSpBp, LeaBpSp, LeaBpRoom, SubSp, SpReg, StoreBp, LoadBp, Leave, SpOther, BpOther, IretNext}
+use Rattle.machine_defs.specs.Program.{Program}
+use Rattle.machine_defs.specs.Kept.{loses_stack, loosened, moved_at}
+use Rattle.state_defs.specs.declared.state.EndKind.TheVariants.{Undefined}
 use Rattle.state_defs.specs.declared.state.Depth.{Depth}
 use Rattle.state_defs.specs.declared.state.Depth.TheVariants.{Known, AtLeast}
 use Rattle.state_defs.specs.declared.state.BpHome.{BpHome}
@@ -144,9 +147,22 @@ moved_or_refused (Ended kind) op = moved (Ended kind)
 moved_or_refused (Regs full depth) op = regs_moved full depth op
 
 -- a move is refused by a rule from 7 on
-pub refusal : (s : State) (op : Op) (rule : ℕ) → move s op ≡ Err rule → 7 ≤ rule
+refusal : (s : State) (op : Op) (rule : ℕ) → move s op ≡ Err rule → 7 ≤ rule
 refusal s op rule e = go (move s op) e (moved_or_refused s op)
   where
     go : (r : Result State ℕ) → r ≡ Err rule → IsMoved r → 7 ≤ rule
     go r e (moved s) = absurd (let k : ⊥ = cc in k)
     go r e (refused other h) = let k : other ≡ rule = cc in subst (λ (x : ℕ). 7 ≤ x) k h
+
+-- in loose code, too
+firmly : (loose : Bool) (r : Result State ℕ) (rule : ℕ) → loosened loose r ≡ Err rule → r ≡ Err rule
+firmly false r rule e = e
+firmly true (Ok s) rule e = e
+firmly true (Err other) rule e = go (loses_stack other) e
+  where
+    go : (b : Bool) → if◌then◌else◌ {A = Result State ℕ} b (Ok (Ended Undefined)) (Err other) ≡ Err rule → ◌≡◌ {A = Result State ℕ} (Err other) (Err rule)
+    go true e = absurd (let k : ⊥ = cc in k)
+    go false e = e
+
+pub refusal_at : (p : Program) (q : ℕ) (s : State) (rule : ℕ) → moved_at p q s ≡ Err rule → 7 ≤ rule
+refusal_at p q s rule e = refusal s (p.insn q).op rule (firmly (p.loose q) (move s (p.insn q).op) rule e)

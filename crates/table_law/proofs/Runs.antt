@@ -1,13 +1,14 @@
 -- A run stands in a site only where the site's start is kept.
-use Rattle.std.proofs.Common.{◌≡◌, ℕ, Bool, true, false, List, ◌∷◌, Option, Some, IfSome, MatchBool, Contains, refl, sym, subst, inl, inr}
+use Rattle.std.proofs.Common.{◌≡◌, ℕ, Bool, true, false, List, ◌∷◌, Option, Some, IfSome, MatchBool, Contains, refl, sym, subst, inl, inr, pos}
 use Rattle.std.proofs.lemmas.List.Elements.{All-head}
 use Rattle.ot_base.specs.declared.place.Place.{Place}
 use Rattle.machine_defs.specs.declared.flow.EdgeKind.TheVariants.{Next}
 use Rattle.machine_defs.specs.declared.flow.Role.{Role}
 use Rattle.machine_defs.specs.declared.flow.Role.TheVariants.{CallIn, CallEither, CallAny}
 use Rattle.state_defs.specs.declared.state.State.{State}
+use Rattle.state_defs.specs.declared.state.State.TheVariants.{Regs}
 use Rattle.state_defs.specs.Frame.{Frame}
-use Rattle.machine_defs.specs.Program.{Program, in_site, entry_points, is_call, edge}
+use Rattle.machine_defs.specs.Program.{Program, IsPoint, Site, in_site, entry_points, is_call, edge}
 use Rattle.machine_defs.specs.Machine.{Bases, Standing, point_address, return_address}
 use Rattle.machine_defs.specs.Step.{op_at, GoesOn, Faults, IsTarget, CallsIn, CallsOut, Returns, JumpsTo, sibling, indirect, TailCalls, IsInterrupted, ReturnsFromInterrupt}
 use Rattle.machine_defs.specs.Run.{MayStart}
@@ -17,20 +18,26 @@ use Rattle.machine_defs.specs.Broken.{IsAccepted}
 use Rattle.machine_defs.specs.IsProgram.{IsCallee, IsProgram, IsLaidOut}
 use Rattle.machine_defs.specs.Law.{IsInnerFrame, AreFrames, HasRunInvariant, HasFrameInvariant}
 use Rattle.table_defs.specs.Enters.{EntersSites}
-use Rattle.unwinding_law.proofs.WaysOn.{acts_no_call, called_alone}
+use Rattle.unwinding_law.proofs.WaysOn.{acts_no_call, called_is_set}
 use Rattle.unwinding_law.proofs.Shadow.{effect_no_call}
 use Rattle.unwinding_law.proofs.Backs.{inner_of, comes_back_to}
 use Rattle.unwinding_law.proofs.Edges.{plain_role, may_go, call_next_in}
-use Rattle.unwinding_law.proofs.Passes.{out_calls}
+use Rattle.unwinding_law.proofs.ComesBack.{out_calls}
+use Rattle.unwinding_law.proofs.KeptStates.{set_kept}
 use Rattle.table_law.proofs.VisitedPlaces.{calls, AllHave}
 use Rattle.table_law.proofs.Enters.{IsEntered, entered_local, entered_fixup, entered_sibling, entered_entry}
 
 module _ (p : Program) (bases : Bases) (is : IsProgram p) (laid : IsLaidOut p) (acc : IsAccepted p) (states : ℕ → Option State) (kept : AreKeptStates p states) (enters : EntersSites p) where
-  -- a point at which a run may start by its hint is the start of its site
-  pub hint_entered_start : (q : ℕ) (s : State) → MayStart p q → Kept p q s → IsEntered p q
-  hint_entered_start q s may k site listed inside =
-      let at : site.start ≡ p.place q = may.outside site listed (subst (λ (z : Place). in_site site z ≡ true) (laid.plain q may.point may.plain) inside) in
-      record { start = q; point = may.point; plain = may.plain; place = sym at; state = s; kept = k }
+  -- control that comes to a kept plain point, which is in no site past its start, finds that start kept
+  starts_site : (at q : ℕ) → IsPoint p at → p.variant at ≡ 0 → ((site : Site) → Contains p.sites site → in_site site (p.place at) ≡ true → site.start ≡ p.place at) → Contains (entry_points p at) q → (s : State) → Kept p at s → IsEntered p q
+  starts_site at q point plain start arrives s k site listed inside =
+      let there : p.address q ≡ p.place at = (enters.arrivals at point plain).1 q arrives in
+      let begins : site.start ≡ p.place at = start site listed (subst (λ (z : Place). in_site site z ≡ true) there inside) in
+      record { start = at; point = point; plain = plain; place = sym begins; state = s; kept = k }
+
+  -- a point at which a run may start by a hint
+  pub hint_entered_start : (q : ℕ) (s : State) → MayStart p s q → IsEntered p q
+  hint_entered_start q s may = starts_site may.plain_point q may.point may.plain may.outside may.arrives s (set_kept p may.plain_point s may.checked may.hinted)
 
   module _ (s t : Standing) (r : HasRunInvariant p s) (f : HasFrameInvariant p bases s) (here : IsEntered p s.point) (behind : AllHave (IsEntered p) (calls s.core.shadow)) where
     -- an instruction goes on
@@ -50,16 +57,13 @@ module _ (p : Program) (bases : Bases) (is : IsProgram p) (laid : IsLaidOut p) (
     called_entry CallAny entry h k = inl k
     called_entry _ entry h k = absurd k
 
-    -- which is in no site
+    -- which is in no site past its start
     callee_entered : (entry q : ℕ) → IsCallee p s.point entry → Contains (entry_points p entry) q → IsEntered p q
     callee_entered entry q (inl c) d = entered_entry p is acc states kept enters entry q c d
-    callee_entered entry q (inr may) d = subst (IsEntered p) (sym (called_alone p is s.point entry q may d)) alone
-      where
-        alone : IsEntered p entry
-        alone site listed inside =
-            let out : in_site site (p.place entry) ≡ false = may.outside site listed in
-            let within : in_site site (p.place entry) ≡ true = subst (λ (z : Place). in_site site z ≡ true) (laid.plain entry may.point may.plain) inside in
-            absurd (let k : ⊥ = cc in k)
+    callee_entered entry q (inr may) d =
+        let itself : Contains (entry_points p entry) entry = (enters.arrivals entry may.point may.plain).0 in
+        let hint = called_is_set p s.point entry entry may itself in
+        starts_site entry q may.point may.plain may.at_start d hint.0 (set_kept p entry hint.0 (is.unowned entry may.point may.of_none) hint.1)
 
     -- it calls code of the program
     pub calls_in_entered : CallsIn p bases s t → IsEntered p t.point
@@ -68,7 +72,7 @@ module _ (p : Program) (bases : Bases) (is : IsProgram p) (laid : IsLaidOut p) (
     -- it calls code outside
     pub calls_out_entered : CallsOut p s t → IsEntered p t.point
     calls_out_entered g =
-        let call = out_calls p (p.role s.point) g.target in
+        let call = out_calls p s.point g.target in
         let next = call_next_in p is acc s.point t.point r.state r.point r.kept call.0 g.passed g.comes_back in
         entered_local p is acc states kept enters s.point t.point r.state Next here refl r.point r.kept next call.1
 
@@ -85,7 +89,7 @@ module _ (p : Program) (bases : Bases) (is : IsProgram p) (laid : IsLaidOut p) (
         let i : IsInnerFrame p bases s.point h.call h.frame h.below = both.0 in
         let k = i.call_kept in
         let call : is_call (p.role h.call) ≡ true = (subst (λ (b : Bool). MatchBool b ((h.frame.ra ≡ return_address p bases h.call) × (is_call (p.role h.call) ≡ true)) (h.frame.ra ≡ point_address p bases h.call)) h.ready.of_call i.goes_back).1 in
-        let back : target_may_return p (p.role h.call) ≡ true = comes_back_to p is s t r.point h (i.comes_back h.ready.of_call) in
+        let back : target_may_return p h.call ≡ true = comes_back_to p is s t r.point h (i.comes_back h.ready.of_call) in
         let next : Contains (p.goes h.call) (edge t.point Next) = call_next_in p is acc h.call t.point k.state i.point k.kept call h.passed h.comes_back in
         entered_local p is acc states kept enters h.call t.point k.state Next (top_call h.frame h.below h.call h.shadow h.called) refl i.point k.kept next back
 
@@ -97,12 +101,11 @@ module _ (p : Program) (bases : Bases) (is : IsProgram p) (laid : IsLaidOut p) (
         jumps q (sibling q2 c) = entered_sibling p is acc states kept enters s.point q here r.point c
         jumps q (indirect q2 entry role c d) = entered_entry p is acc states kept enters entry q c d
 
-    -- a gate is outside sites
+    -- a gate is in no site past its start
     pub interrupted_entered : IsInterrupted p bases s t → IsEntered p t.point
-    interrupted_entered h site listed inside =
-        let out : in_site site (p.place t.point) ≡ false = h.gate.outside site listed in
-        let within : in_site site (p.place t.point) ≡ true = subst (λ (z : Place). in_site site z ≡ true) (laid.plain t.point h.gate.point h.gate.plain) inside in
-        absurd (let k : ⊥ = cc in k)
+    interrupted_entered h =
+        let state : State = Regs false (pos h.n) in
+        starts_site h.entered t.point h.gate.point h.gate.plain h.gate.at_start h.arrives state (set_kept p h.entered state (is.unowned h.entered h.gate.point h.gate.free) h.gate.hint)
 
     -- it returns from an interrupt
     pub irets_entered : ReturnsFromInterrupt p s t → IsEntered p t.point

@@ -15,7 +15,7 @@ use Rattle.unwinding_law.proofs.Lists.{nowhere, from_flat_map}
 use Rattle.unwinding_law.proofs.KeptStates.{least_member, unless_unchecked, kept_checked, brought_kept}
 use Rattle.unwinding_law.proofs.Same.{same_state}
 use Rattle.unwinding_law.proofs.KeptPoints.{kept_are_points}
-use Rattle.table_law.proofs.Refusals.{refusal}
+use Rattle.table_law.proofs.Refusals.{refusal_at}
 
 module _ (p : Program) where
   -- the least state that is brought comes along a path
@@ -59,7 +59,7 @@ module _ (p : Program) where
     other_path = kept_path r u kr;
     different = ne;
   }
-  two_paths place rule a b (broken.refused q n s k e before) f = let h : 7 ≤ 4 = subst (λ (x : ℕ). 7 ≤ x) f (refusal s (p.insn q).op n e) in absurd (omega arith)
+  two_paths place rule a b (broken.refused q n s k e before) f = let h : 7 ≤ 4 = subst (λ (x : ℕ). 7 ≤ x) f (refusal_at p q s n e) in absurd (omega arith)
   two_paths place rule a b _ e = absurd (omega arith)
 
   module _ (is : IsProgram p) (hints : HintsStandAtPoints p) where

@@ -97,9 +97,9 @@ module _ (p : Program) (bases : Bases) where
     -- at each start
     pub first_calls : (s : Standing) → Start p bases s → AllHave P (calls s.core.shadow)
     first_calls s (at_entry t s2 f entry c d was e from) = start_calls t s from (called t was)
-    first_calls s (at_call_hint t s2 depth fp bp may h was from) = start_calls t s from (called t was)
-    first_calls s (at_regs_hint t s2 full depth may h was from) = start_calls t s from (subst (λ (x : List Frame). AllHave P (calls x)) (sym was.shadow) no_call)
-    first_calls s (at_end_hint t s2 kind may h empty from) = start_calls t s from (subst (λ (x : List Frame). AllHave P (calls x)) (sym empty) (All-nil (λ call. IfSome call P)))
+    first_calls s (at_call_hint t s2 depth fp bp may was from) = start_calls t s from (called t was)
+    first_calls s (at_regs_hint t s2 full depth may was from) = start_calls t s from (subst (λ (x : List Frame). AllHave P (calls x)) (sym was.shadow) no_call)
+    first_calls s (at_end_hint t s2 kind may empty from) = start_calls t s from (subst (λ (x : List Frame). AllHave P (calls x)) (sym empty) (All-nil (λ call. IfSome call P)))
 
     -- a new frame is called from where the machine stands
     with_call : (s : Standing) → P s.point → (f : Frame) → f.call ≡ Some s.point → AllHave P (calls s.core.shadow) → AllHave P (calls (f ∷ s.core.shadow))

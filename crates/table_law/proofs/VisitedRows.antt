@@ -1,8 +1,7 @@
 -- Each point to which runs come lies in sites whose starts are kept.
-use Rattle.std.proofs.Common.{◌≡◌, ℕ, Option, Some, sym, subst}
+use Rattle.std.proofs.Common.{ℕ, Option, sym, subst}
 use Rattle.state_defs.specs.declared.state.State.{State}
 use Rattle.state_defs.specs.declared.state.State.TheVariants.{Live, Ended, Regs}
-use Rattle.state_defs.specs.declared.state.HintState.TheVariants.{Set}
 use Rattle.machine_defs.specs.Program.{Program, IsPoint}
 use Rattle.machine_defs.specs.Machine.{Bases, IsPlacement, Standing, Machine, At}
 use Rattle.machine_defs.specs.Hint.{Lands}
@@ -14,7 +13,6 @@ use Rattle.machine_defs.specs.IsProgram.{IsProgram, IsLaidOut}
 use Rattle.machine_defs.specs.Law.{IsInOrder, UnwindingLaw}
 use Rattle.table_defs.specs.Visited.{IsVisited}
 use Rattle.table_defs.specs.Enters.{EntersSites}
-use Rattle.unwinding_law.proofs.KeptStates.{set_kept}
 use Rattle.table_law.proofs.VisitedPlaces.{HoldsAt, HoldsOfCalls, lands_there, starts_there, first_calls, step_calls}
 use Rattle.table_law.proofs.Enters.{IsEntered, entered_entry}
 use Rattle.table_law.proofs.Runs.{hint_entered_start, goes_on_entered, faults_entered, calls_in_entered, calls_out_entered, returns_entered, tail_calls_entered, interrupted_entered, irets_entered}
@@ -25,15 +23,15 @@ module _ (law : UnwindingLaw) (p : Program) (bases : Bases) (is : IsProgram p) (
   from_start t s from h = subst (λ (q : ℕ). IsEntered p q) (sym (starts_there p bases t s from)) h
 
   -- a start at a hint
-  at_hint : (t s : Standing) (state : State) → MayStart p t.point → p.hint t.point ≡ Some (Set state) → StartsFrom p t s → IsEntered p s.point
-  at_hint t s state may hint from = from_start t s from (hint_entered_start p bases is laid acc states kept enters t.point state may (set_kept p t.point state may.checked hint))
+  at_hint : (t s : Standing) (state : State) → MayStart p state t.point → StartsFrom p t s → IsEntered p s.point
+  at_hint t s state may from = from_start t s from (hint_entered_start p bases is laid acc states kept enters t.point state may)
 
   -- each start
   start_entered : (s : Standing) → Start p bases s → IsEntered p s.point
   start_entered s (at_entry t s2 f entry c d was e from) = from_start t s from (entered_entry p is acc states kept enters entry t.point c d)
-  start_entered s (at_call_hint t s2 depth fp bp may h was from) = at_hint t s (Live depth fp bp) may h from
-  start_entered s (at_regs_hint t s2 full depth may h was from) = at_hint t s (Regs full depth) may h from
-  start_entered s (at_end_hint t s2 kind may h empty from) = at_hint t s (Ended kind) may h from
+  start_entered s (at_call_hint t s2 depth fp bp may was from) = at_hint t s (Live depth fp bp) may from
+  start_entered s (at_regs_hint t s2 full depth may was from) = at_hint t s (Regs full depth) may from
+  start_entered s (at_end_hint t s2 kind may empty from) = at_hint t s (Ended kind) may from
 
   -- what is entered stays so past a hint
   landed : (t u : Standing) → Lands p t u → IsEntered p t.point → IsEntered p u.point

@@ -14,7 +14,7 @@ use Rattle.table_defs.specs.Enters.{EntersSites}
 use Rattle.unwinding_law.specs.Worked.{site, worked, state_of}
 use Rattle.unwinding_law.proofs.Elements.{each, none, one, two}
 use Rattle.unwinding_law.proofs.Lists.{here, cases, nowhere, in_below}
-use Rattle.unwinding_law.proofs.WorkedProgram.{along, never, no_state, hint_points}
+use Rattle.unwinding_law.proofs.WorkedProgram.{arrives_at, along, never, no_state, hint_points}
 use Rattle.unwinding_law.proofs.WorkedStates.{only_site, kept_state}
 use Rattle.table_law.proofs.WorkedProgram.{in_text}
 
@@ -107,6 +107,7 @@ enters = record {
       | inr z ↦ nowhere entry z
     ]
   ];
+  arrivals = λ q point v. let a = arrives_at q point v in (a.itself, λ r c. (a.each_there r c).address);
 }
   where
     of_g : (q : ℕ) → Contains (4 ∷ []) q → in_site site (worked.address q) ≡ true → false ≡ true

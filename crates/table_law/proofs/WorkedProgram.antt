@@ -1,5 +1,5 @@
 -- The worked program meets the premises of the walk law.
-use Rattle.std.proofs.Common.{◌≡◌, ℕ, zero, suc, ◌+◌, ◌^◌, ◌<◌, ◌≤◌, Bool, true, false, ◌&&◌, [], ◌∷◌, Some, IfSome, IsTrue, Contains, slice_index_or, nat_le, nat_lt, refl, sym, subst, inl, arith, lit<, lit≤, leb-true}
+use Rattle.std.proofs.Common.{◌≡◌, ℕ, zero, suc, ◌+◌, ◌^◌, ◌<◌, ◌≤◌, true, [], ◌∷◌, Some, IfSome, IsTrue, Contains, slice_index_or, nat_le, nat_lt, refl, sym, subst, inl, arith, lit<, lit≤, leb-true}
 use Rattle.std.proofs.lemmas.Bool.{and_parts, ltb-true}
 use Rattle.std.proofs.lemmas.List.Sorted.{IsPermutation-refl}
 use Rattle.state_defs.specs.Address.{down}

@@ -132,3 +132,13 @@ call_hint_tells (Some Restore) e = absurd (let k : ⊥ = cc in k)
 
 pub called_is_told : (p : Program) (a entry q : ℕ) → MayCall p a entry → Contains (entry_points p entry) q → is_free (p.hint q) ≡ false
 called_is_told p a entry q may c = call_hint_tells (p.hint q) (may.hinted q c).1
+
+-- it sets a state
+pub called_is_set : (p : Program) (a entry q : ℕ) → MayCall p a entry → Contains (entry_points p entry) q → (s : State) × (p.hint q ≡ Some (Set s))
+called_is_set p a entry q may c = go (p.hint q) refl (may.hinted q c).1
+  where
+    go : (h : Option HintState) → p.hint q ≡ h → is_call_hint h ≡ true → (s : State) × (p.hint q ≡ Some (Set s))
+    go None is e = absurd (let k : ⊥ = cc in k)
+    go (Some (Set s)) is e = (s, is)
+    go (Some Save) is e = absurd (let k : ⊥ = cc in k)
+    go (Some Restore) is e = absurd (let k : ⊥ = cc in k)
