@@ -1,11 +1,10 @@
 -- The warnings that are found at points, and at functions without a size, are those of the rules but 12.
-use Rattle.std.proofs.Common.{◌≡◌, ◌≢◌, ◌↔◌, ℕ, Bool, true, false, List, [], ◌∷◌, ◌⊎◌, inl, inr, Option, Some, None, Result, Ok, Err, ◌==◌, Contains, ℤ, refl, ap, sym, subst, arith}
+use Rattle.std.proofs.Common.{◌≡◌, ◌≢◌, ◌↔◌, ℕ, true, List, [], ◌∷◌, ◌⊎◌, inl, inr, Option, Some, None, Result, Ok, Err, ◌==◌, Contains, ℤ, refl, ap, sym, subst, arith}
 use Rattle.std.specs.Prelude.{option_to_list}
 use Rattle.std.specs.List.{list_any}
 use Rattle.std.proofs.lemmas.Bool.{eq-eqb, eqb-true}
 use Rattle.ot_base.specs.declared.place.Place.{Place}
 use Rattle.ot_base.specs.declared.warning.Warning.{Warning}
-use Rattle.operation_defs.specs.declared.op.Op.{Op}
 use Rattle.machine_defs.specs.declared.flow.Edge.{Edge}
 use Rattle.machine_defs.specs.declared.flow.EdgeKind.{EdgeKind}
 use Rattle.machine_defs.specs.declared.flow.EdgeKind.TheVariants.{Next, Taken, Fixup, Table, Sibling}
@@ -13,14 +12,12 @@ use Rattle.machine_defs.specs.declared.flow.Role.{Role}
 use Rattle.machine_defs.specs.declared.flow.Role.TheVariants.{Plain, CallIn, CallEither, CallOut, CallAny, Return, JumpOut, JumpAny, Switch}
 use Rattle.state_defs.specs.declared.state.State.{State}
 use Rattle.state_defs.specs.declared.state.HintState.TheVariants.{Restore}
-use Rattle.state_defs.specs.Move.{move}
 use Rattle.machine_defs.specs.Program.{Program, edge, entry_points}
-use Rattle.machine_defs.specs.Kept.{Kept, brought_along, edges_of, is_at_entry, moved}
+use Rattle.machine_defs.specs.Kept.{Kept, brought_along, edges_of, is_at_entry, moved, moved_at}
 use Rattle.machine_defs.specs.Broken.{LeavesByJump, sibling, outside, anywhere, Warns, bad_target, falls_through, runs_off, mismatch, modified_return, drops_bytes, modified_sibling, refused, unfit, variants_disagree, call_disagrees, into_site, unallowed_return, unallowed_sibling, unallowed_switch, unallowed_iret, into_function, without_size, entered_restore, reached_restore, relocated_offset}
 use Rattle.unwinding_law.proofs.Lists.{here, cases, nowhere, found, find_one}
 use Rattle.machine_defs.specs.Ways.{is_before_hint, may_leave}
 use Rattle.unwinding_law.proofs.KeptStates.{brings_along, brings_edge}
-use Rattle.unwinding_law.proofs.WaysOn.{sibling_edge_stays}
 use Rattle.program_graph.specs.declared.parts.GraphParts.{GraphParts}
 use Rattle.kept_states.specs.LevelStates.{at}
 use Rattle.stack_rules.specs.Checks.{Checks}
@@ -42,12 +39,12 @@ moved_option : (r : Result State ℕ) → (o : Option State) × (option_to_list 
 moved_option (Ok s) = (Some s, refl)
 moved_option (Err rule) = (None, refl)
 
-brought_option : (s : State) (op : Op) (kind : EdgeKind) → (o : Option State) × IsBrought s op kind o
-brought_option s op Next = moved_option (move s op)
-brought_option s op Taken = moved_option (move s op)
-brought_option s op Fixup = (Some s, refl)
-brought_option s op Table = moved_option (move s op)
-brought_option s op Sibling = (None, refl)
+brought_option : (s : State) (after : Result State ℕ) (kind : EdgeKind) → (o : Option State) × IsBrought s after kind o
+brought_option s after Next = moved_option after
+brought_option s after Taken = moved_option after
+brought_option s after Fixup = (Some s, refl)
+brought_option s after Table = moved_option after
+brought_option s after Sibling = (None, refl)
 
 the_one : (o : Option State) (xs : List State) (t : State) → option_to_list o ≡ xs → Contains xs t → o ≡ Some t
 the_one o xs t e c = go o (subst (λ (ys : List State). Contains ys t) (sym e) c)
@@ -56,8 +53,8 @@ the_one o xs t e c = go o (subst (λ (ys : List State). Contains ys t) (sym e) c
     go None d = nowhere t d
     go (Some s) d = elim (cases s [] t d) [ inl f ↦ ap Some f | inr n ↦ nowhere t n ]
 
-pub brought_is : (s : State) (op : Op) (kind : EdgeKind) (o : Option State) (t : State) → IsBrought s op kind o → o ≡ Some t → Contains (brought_along s op kind) t
-brought_is s op kind o t is e =
+pub brought_is : (s : State) (after : Result State ℕ) (kind : EdgeKind) (o : Option State) (t : State) → IsBrought s after kind o → o ≡ Some t → Contains (brought_along s after kind) t
+brought_is s after kind o t is e =
     let some : option_to_list o ≡ t ∷ [] = ap option_to_list e in
     subst (λ (ys : List State). Contains ys t) is (subst (λ (ys : List State). Contains ys t) (sym some) (here t []))
 
@@ -78,9 +75,9 @@ module _ (p : Program) (parts : GraphParts) (states : List (Option State)) (c : 
     return_tells r (inr (inl ((o, h), e))) = as_one _ w e (drops_bytes q s k r o h, λ z. absurd (omega (arith, z)))
     return_tells r (inr (inr ((h, m), e))) = as_one _ w e (unallowed_return q s k r h m, λ z. absurd (omega (arith, z)))
 
-    sibling_tells : LeavesByJump p q → (leaves : Bool) → (leaves ≡ false → may_leave p q ≡ false) → SiblingWarns (p.place q) s leaves w → IsOfRules p w
-    sibling_tells l leaves stays (inl (h, e)) = as_one _ w e (modified_sibling q s k l h, λ z. absurd (omega (arith, z)))
-    sibling_tells l leaves stays (inr ((h, m), e)) = as_one _ w e (unallowed_sibling q s k l h (stays m), λ z. absurd (omega (arith, z)))
+    sibling_tells : LeavesByJump p q → SiblingWarns (p.place q) s (may_leave p q) w → IsOfRules p w
+    sibling_tells l (inl (h, e)) = as_one _ w e (modified_sibling q s k l h, λ z. absurd (omega (arith, z)))
+    sibling_tells l (inr ((h, m), e)) = as_one _ w e (unallowed_sibling q s k l h m, λ z. absurd (omega (arith, z)))
 
     role_tells : (role : Role) → p.role q ≡ role → RoleWarns (p.place q) (p.insn q).op s (may_leave p q) role w → IsOfRules p w
     role_tells Plain r h = absurd h
@@ -89,28 +86,28 @@ module _ (p : Program) (parts : GraphParts) (states : List (Option State)) (c : 
     role_tells (CallOut sym) r h = absurd h
     role_tells CallAny r h = absurd h
     role_tells Return r h = return_tells r h
-    role_tells (JumpOut sym) r h = sibling_tells (outside sym r) (may_leave p q) (λ m. m) h
-    role_tells JumpAny r h = sibling_tells (anywhere r) (may_leave p q) (λ m. m) h
+    role_tells (JumpOut sym) r h = sibling_tells (outside sym r) h
+    role_tells JumpAny r h = sibling_tells (anywhere r) h
     role_tells Switch r h = absurd h
 
-    operation_tells : OperationWarns (p.place q) (p.insn q).op s (is_before_hint p q) w → IsOfRules p w
-    operation_tells (inl (rule, (h, b), e)) = as_one _ w e (refused q rule s k h b, refused_otherwise s (p.insn q).op rule h)
+    operation_tells : OperationWarns (p.place q) (p.insn q).op s (moved_at p q s) (is_before_hint p q) w → IsOfRules p w
+    operation_tells (inl (rule, (h, b), e)) = as_one _ w e (refused q rule s k h b, refused_otherwise p q s rule h)
     operation_tells (inr (inl ((o, h), e))) = as_one _ w e (unallowed_switch q s k o h, λ z. absurd (omega (arith, z)))
     operation_tells (inr (inr ((o, h), e))) = as_one _ w e (unallowed_iret q s k o h, λ z. absurd (omega (arith, z)))
 
     row_tells : RowWarns (p.place q) s w → IsOfRules p w
     row_tells (a, h, e) = as_one _ w e (unfit q s a k h, λ z. absurd (omega (arith, z)))
 
-    arrival_tells : (e : Edge) (brought : Option State) → Contains (edges_of p q) e → IsBrought s (p.insn q).op e.kind brought → ArrivalWarns p states e.to brought w → IsOfRules p w
+    arrival_tells : (e : Edge) (brought : Option State) → Contains (edges_of p q) e → IsBrought s (moved_at p q s) e.kind brought → ArrivalWarns p states e.to brought w → IsOfRules p w
     arrival_tells e brought d is (inl ((h, n), same)) = as_one _ w same (reached_restore q e.to s e h (not_kept p parts states c e.to n) k d refl, λ z. absurd (omega (arith, z)))
     arrival_tells e brought d is (inr (u, (l, free), (t, (b, ne), same))) =
-        as_one _ w same (mismatch q e.to s t u k (brings_along p q s e t d (brought_is s (p.insn q).op e.kind brought t is b)) (kept_there p parts states c e.to u l) free ne, λ z. absurd (omega (arith, z)))
+        as_one _ w same (mismatch q e.to s t u k (brings_along p q s e t d (brought_is s (moved_at p q s) e.kind brought t is b)) (kept_there p parts states c e.to u l) free ne, λ z. absurd (omega (arith, z)))
 
     edge_tells : (e : Edge) → Contains (edges_of p q) e → EdgeWarns p states q s e w → IsOfRules p w
     edge_tells e d (inl ((next, ne), same)) = as_one _ w same (falls_through q e.to s k (subst (λ (x : EdgeKind). Contains (edges_of p q) (edge e.to x)) next d) ne, λ z. absurd (omega (arith, z)))
     edge_tells e d (inr (inl (kind, h))) =
         let along : Contains (edges_of p q) (edge e.to Sibling) = subst (λ (x : EdgeKind). Contains (edges_of p q) (edge e.to x)) kind d in
-        sibling_tells (sibling e.to along) false (λ m. sibling_edge_stays p q e.to along) h
+        sibling_tells (sibling e.to along) h
     edge_tells e d (inr (inr (brought, is, h))) = arrival_tells e brought d is h
 
     kept_tells : KeptWarns p states q s w → IsOfRules p w
@@ -145,12 +142,12 @@ module _ (p : Program) (parts : GraphParts) (states : List (Option State)) (c : 
     at_role : (q : ℕ) (s : State) → Kept p q s → (role : Role) → p.role q ≡ role → RoleWarns (p.place q) (p.insn q).op s (may_leave p q) role w → IsFound p states w
     at_role q s k role r h = at_kept q s k (inr (inl (subst (λ (x : Role). RoleWarns (p.place q) (p.insn q).op s (may_leave p q) x w) (sym r) h)))
 
-    at_jump : (q : ℕ) (s : State) → Kept p q s → LeavesByJump p q → ((leaves : Bool) → (may_leave p q ≡ false → leaves ≡ false) → SiblingWarns (p.place q) s leaves w) → IsFound p states w
-    at_jump q s k (sibling r d) h = at_edge q s k (edge r Sibling) d (inr (inl (refl, h false (λ m. refl))))
-    at_jump q s k (outside sym r) h = at_role q s k (JumpOut sym) r (h (may_leave p q) (λ m. m))
-    at_jump q s k (anywhere r) h = at_role q s k JumpAny r (h (may_leave p q) (λ m. m))
+    at_jump : (q : ℕ) (s : State) → Kept p q s → LeavesByJump p q → SiblingWarns (p.place q) s (may_leave p q) w → IsFound p states w
+    at_jump q s k (sibling r d) h = at_edge q s k (edge r Sibling) d (inr (inl (refl, h)))
+    at_jump q s k (outside sym r) h = at_role q s k (JumpOut sym) r h
+    at_jump q s k (anywhere r) h = at_role q s k JumpAny r h
 
-    at_arrival : (q r : ℕ) (s : State) → Kept p q s → (e : Edge) → Contains (edges_of p q) e → e.to ≡ r → (brought : Option State) → IsBrought s (p.insn q).op e.kind brought → ArrivalWarns p states r brought w → IsFound p states w
+    at_arrival : (q r : ℕ) (s : State) → Kept p q s → (e : Edge) → Contains (edges_of p q) e → e.to ≡ r → (brought : Option State) → IsBrought s (moved_at p q s) e.kind brought → ArrivalWarns p states r brought w → IsFound p states w
     at_arrival q r s k e d to brought is h = at_edge q s k e d (inr (inr (brought, is, subst (λ (x : ℕ). ArrivalWarns p states x brought w) (sym to) h)))
 
   telling_found : (place : Place) (rule : ℕ) (a b : ℤ) → Warns p place rule a b → rule ≢ 12 → IsFound p states (record { place = place; rule = rule; a = a; b = b })
@@ -159,18 +156,18 @@ module _ (p : Program) (parts : GraphParts) (states : List (Option State)) (c : 
   telling_found place rule a b (runs_off q s k h f) ne = at_kept _ q s k (inl (inr (inl ((h, f), refl))))
   telling_found place rule a b (mismatch q r s t u k brings l free h) ne =
       let e = brings_edge p q r s t brings in
-      let o = brought_option s (p.insn q).op (e.0).kind in
-      at_arrival _ q r s k e.0 e.1 e.2 o.0 o.1 (inr (u, (has_state p parts states c r u l, free), (t, (the_one o.0 (brought_along s (p.insn q).op (e.0).kind) t o.1 e.3, h), refl)))
+      let o = brought_option s (moved_at p q s) (e.0).kind in
+      at_arrival _ q r s k e.0 e.1 e.2 o.0 o.1 (inr (u, (has_state p parts states c r u l, free), (t, (the_one o.0 (brought_along s (moved_at p q s) (e.0).kind) t o.1 e.3, h), refl)))
   telling_found place rule a b (modified_return q s k r h) ne = at_role _ q s k Return r (inl (h, refl))
   telling_found place rule a b (drops_bytes q s k r o h) ne = at_role _ q s k Return r (inr (inl ((o, h), refl)))
-  telling_found place rule a b (modified_sibling q s k l h) ne = at_jump _ q s k l (λ leaves m. inl (h, refl))
+  telling_found place rule a b (modified_sibling q s k l h) ne = at_jump _ q s k l (inl (h, refl))
   telling_found place rule a b (refused q r s k h f) ne = at_kept _ q s k (inr (inr (inl (inl (r, (h, f), refl)))))
   telling_found place rule a b (unfit q s n k h) ne = at_kept _ q s k (inr (inr (inr (inl (n, h, refl)))))
   telling_found place rule a b (variants_disagree site q r s t k l e h) ne = absurd (ne refl)
   telling_found place rule a b (call_disagrees site q r s t k o f h) ne = absurd (ne refl)
   telling_found place rule a b (into_site q s k h) ne = at_kept _ q s k (inl (inr (inr (inl (h, refl)))))
   telling_found place rule a b (unallowed_return q s k r h m) ne = at_role _ q s k Return r (inr (inr ((h, m), refl)))
-  telling_found place rule a b (unallowed_sibling q s k l h m) ne = at_jump _ q s k l (λ leaves stays. inr ((h, stays m), refl))
+  telling_found place rule a b (unallowed_sibling q s k l h m) ne = at_jump _ q s k l (inr ((h, m), refl))
   telling_found place rule a b (unallowed_switch q s k o h) ne = at_kept _ q s k (inr (inr (inl (inr (inl ((o, h), refl))))))
   telling_found place rule a b (unallowed_iret q s k o h) ne = at_kept _ q s k (inr (inr (inl (inr (inr ((o, h), refl))))))
   telling_found place rule a b (into_function q s k h) ne = at_kept _ q s k (inl (inr (inr (inr (inl (h, refl))))))
@@ -179,7 +176,7 @@ module _ (p : Program) (parts : GraphParts) (states : List (Option State)) (c : 
       let entered : is_at_entry p q ≡ true = found (λ x. list_any (λ y. y == q) (entry_points p x)) p.entries entry d (found (λ y. y == q) (entry_points p entry) q f (eq-eqb q q refl)) in
       inl (q, c.hints q Restore h, inr (has_none p parts states c q n, ((h, entered), refl)))
   telling_found place rule a b (reached_restore q r s e h n k d to) ne =
-      let o = brought_option s (p.insn q).op e.kind in
+      let o = brought_option s (moved_at p q s) e.kind in
       at_arrival _ q r s k e d to o.0 o.1 (inl ((h, has_none p parts states c r n), refl))
   telling_found place rule a b (relocated_offset q s k f h) ne = at_kept _ q s k (inl (inr (inr (inr (inr ((f, h), refl))))))
 

@@ -1,10 +1,9 @@
 -- What is told at points, by what is kept there.
-use Rattle.std.proofs.Common.{◌≡◌, ◌↔◌, ℕ, Bool, List, inl, inr, true, false, IsTrue, Option, Some, None, IsSome, refl, sym, ap, ◌∙◌, subst}
+use Rattle.std.proofs.Common.{◌≡◌, ◌↔◌, ℕ, Bool, List, inl, inr, true, false, IsTrue, Option, Some, None, IsSome, refl, sym, ap, ◌∙◌, subst, Result}
 use Rattle.std.specs.Prelude.{option_to_list}
 use Rattle.ot_base.specs.declared.warning.Warning.{Warning}
 use Rattle.ot_base.specs.Warnings.{bare_warning}
 use Rattle.machine_defs.specs.declared.flow.EdgeKind.{EdgeKind}
-use Rattle.operation_defs.specs.declared.op.Op.{Op}
 use Rattle.state_defs.specs.declared.state.State.{State}
 use Rattle.state_defs.specs.declared.state.HintState.TheVariants.{Restore}
 use Rattle.machine_defs.specs.Program.{Program}
@@ -43,10 +42,10 @@ module _ (p : Program) (states : List (Option State)) (old new : List Warning) w
   one_brought (Some s) (Some t) e = let same : s ≡ t = cc in ap Some same
 
   -- the one state that an edge brings
-  pub arrival_by : (r : ℕ) (s : State) (op : Op) (kind : EdgeKind) (brought : Option State) → IsBrought s op kind brought → Gains old new (ArrivalWarns p states r brought)
-      → Gains old new (λ w. (b : Option State) × IsBrought s op kind b × ArrivalWarns p states r b w)
-  arrival_by r s op kind brought is gains =
-      gains_same old new (ArrivalWarns p states r brought) (λ w. (b : Option State) × IsBrought s op kind b × ArrivalWarns p states r b w) gains
+  pub arrival_by : (r : ℕ) (s : State) (after : Result State ℕ) (kind : EdgeKind) (brought : Option State) → IsBrought s after kind brought → Gains old new (ArrivalWarns p states r brought)
+      → Gains old new (λ w. (b : Option State) × IsBrought s after kind b × ArrivalWarns p states r b w)
+  arrival_by r s after kind brought is gains =
+      gains_same old new (ArrivalWarns p states r brought) (λ w. (b : Option State) × IsBrought s after kind b × ArrivalWarns p states r b w) gains
       (λ w. (λ k. (brought, is, k), λ (b, other, k). subst (λ (x : Option State). ArrivalWarns p states r x w) (one_brought b brought (other ∙ sym is)) k))
 
   -- a point, by what it keeps

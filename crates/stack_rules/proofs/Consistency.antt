@@ -1,5 +1,5 @@
 -- What is kept, and what isn't; kept states and what they bring are consistent.
-use Rattle.std.proofs.Common.{◌≡◌, ℕ, List, Option, Some, None, Contains, ℤ, pos, ◌≤ℤ◌, refl, ap, subst, inl, inr, arith}
+use Rattle.std.proofs.Common.{◌≡◌, ℕ, List, Option, Some, None, Contains, ℤ, pos, ◌≤ℤ◌, refl, ap, sym, subst, inl, inr, arith}
 use Rattle.std.proofs.lemmas.Int.{ints}
 use Rattle.state_defs.specs.declared.state.Depth.{Depth}
 use Rattle.state_defs.specs.declared.state.Depth.TheVariants.{AtLeast}
@@ -7,12 +7,13 @@ use Rattle.state_defs.specs.declared.state.BpHome.{BpHome}
 use Rattle.state_defs.specs.declared.state.BpHome.TheVariants.{Same, Saved}
 use Rattle.state_defs.specs.declared.state.State.{State}
 use Rattle.state_defs.specs.declared.state.State.TheVariants.{Live}
+use Rattle.state_defs.specs.Move.{move}
 use Rattle.state_defs.specs.State.{IsConsistent, IsConsistentLive, depth_of}
 use Rattle.machine_defs.specs.declared.flow.EdgeKind.{EdgeKind}
 use Rattle.machine_defs.specs.Program.{Program, IsPoint}
-use Rattle.machine_defs.specs.Kept.{Kept, NotKept, state_at, brought_along}
+use Rattle.machine_defs.specs.Kept.{Kept, NotKept, state_at, brought_along, moved_at}
 use Rattle.stack_state.proofs.Consistent.{move_consistent}
-use Rattle.unwinding_law.proofs.KeptStates.{brought_moves, kept_consistent}
+use Rattle.unwinding_law.proofs.KeptStates.{brought_moves, kept_consistent, moved_at_kept}
 use Rattle.unwinding_law.proofs.KeptPoints.{kept_are_points}
 use Rattle.program_graph.specs.declared.parts.GraphParts.{GraphParts}
 use Rattle.kept_states.specs.LevelStates.{at}
@@ -31,8 +32,8 @@ module _ (p : Program) (parts : GraphParts) (states : List (Option State)) (c : 
   pub consistent_there : (q : ℕ) (s : State) → at states q ≡ Some s → IsConsistent s
   consistent_there q s e = let k : Kept p q s = kept_there q s e in kept_consistent p c.is_program move_consistent q s (kept_point q s k) k
 
-  pub brought_consistent : (q : ℕ) (s t : State) (kind : EdgeKind) → at states q ≡ Some s → Contains (brought_along s (p.insn q).op kind) t → IsConsistent t
-  brought_consistent q s t kind e b = elim (brought_moves s (p.insn q).op kind t b) [ inl same ↦ subst IsConsistent same (consistent_there q s e) | inr moves ↦ (move_consistent s t (p.insn q).op (consistent_there q s e) moves).0 ]
+  pub brought_consistent : (q : ℕ) (s t : State) (kind : EdgeKind) → at states q ≡ Some s → Contains (brought_along s (moved_at p q s) kind) t → IsConsistent t
+  brought_consistent q s t kind e b = elim (brought_moves s (moved_at p q s) kind t b) [ inl same ↦ subst IsConsistent same (consistent_there q s e) | inr moves ↦ elim (moved_at_kept (p.loose q) (move s (p.insn q).op) t moves) [ inl ok ↦ (move_consistent s t (p.insn q).op (consistent_there q s e) ok).0 | inr lost ↦ subst IsConsistent (sym lost) tt ] ]
 
   pub not_kept : (q : ℕ) → at states q ≡ None → NotKept p q
   not_kept q e level = go (state_at p level q) refl

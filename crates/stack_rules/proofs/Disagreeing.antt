@@ -269,7 +269,7 @@ module _ (p : Program) (parts : GraphParts) (states : List (Option State)) (c : 
   telling_found place rule a b (modified_return q s k r h) e = absurd (omega (arith, e))
   telling_found place rule a b (drops_bytes q s k r o h) e = absurd (omega (arith, e))
   telling_found place rule a b (modified_sibling q s k l h) e = absurd (omega (arith, e))
-  telling_found place rule a b (refused q r s k h f) e = absurd (refused_otherwise s (p.insn q).op r h e)
+  telling_found place rule a b (refused q r s k h f) e = absurd (refused_otherwise p q s r h e)
   telling_found place rule a b (unfit q s n k h) e = absurd (omega (arith, e))
   telling_found place rule a b (variants_disagree site q r s t k l at_one h) e = pair_found site q r s t k l at_one h
   telling_found place rule a b (call_disagrees site q r s t k o f h) e = call_found site q r s t k o f h

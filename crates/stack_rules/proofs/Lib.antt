@@ -1,6 +1,7 @@
 pub mod GainsLemmas
 pub mod MoveRules
 pub mod Consistency
+mod HoleParts
 pub mod AllWarnings
 pub mod ByState
 pub mod WarningOrder

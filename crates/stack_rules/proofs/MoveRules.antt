@@ -9,6 +9,9 @@ use Rattle.state_defs.specs.declared.state.BpHome.{BpHome}
 use Rattle.state_defs.specs.declared.state.BpHome.TheVariants.{Same, Saved}
 use Rattle.state_defs.specs.declared.state.State.{State}
 use Rattle.state_defs.specs.declared.state.State.TheVariants.{Live, Ended, Regs}
+use Rattle.state_defs.specs.declared.state.EndKind.TheVariants.{Undefined}
+use Rattle.machine_defs.specs.Program.{Program}
+use Rattle.machine_defs.specs.Kept.{loosened, loses_stack, moved_at}
 use Rattle.state_defs.specs.State.{depth_of, with_depth}
 use Rattle.state_defs.specs.Move.{move, to, floor_of, has_near_numbers, int_same, regs_floor, raise, pop_at, push_bp, pop_bp, align, rsp_from_bp, bp_from_rsp, make_room, base_over_room, store_bp, load_bp, leave, lose_bp, where_allowed, move_live, raise_regs, pop_bp_regs, lose_bp_regs, move_regs}
 
@@ -157,5 +160,14 @@ move_other (Regs full depth) op = regs_other full depth op
 isnt_twelve : (rule : ℕ) → not (rule == 12) ≡ true → rule ≢ 12
 isnt_twelve rule h e = let k : not (12 == 12) ≡ true = subst (λ (n : ℕ). not (n == 12) ≡ true) e h in let z : ⊥ = cc in z
 
-pub refused_otherwise : (s : State) (op : Op) (rule : ℕ) → move s op ≡ Err rule → rule ≢ 12
-refused_otherwise s op rule e = isnt_twelve rule (subst (λ (r : Result State ℕ). other r ≡ true) e (move_other s op))
+refused_by : (r : Result State ℕ) (rule : ℕ) (b : Bool) → (if b then Ok (Ended Undefined) else r) ≡ Err rule → r ≡ Err rule
+refused_by r rule true e = absurd (let z : ⊥ = cc in z)
+refused_by r rule false e = e
+
+refused_at : (loose : Bool) (r : Result State ℕ) (rule : ℕ) → loosened loose r ≡ Err rule → r ≡ Err rule
+refused_at false r rule e = e
+refused_at true (Ok s) rule e = e
+refused_at true (Err n) rule e = refused_by (Err n) rule (loses_stack n) e
+
+pub refused_otherwise : (p : Program) (q : ℕ) (s : State) (rule : ℕ) → moved_at p q s ≡ Err rule → rule ≢ 12
+refused_otherwise p q s rule e = isnt_twelve rule (subst (λ (r : Result State ℕ). other r ≡ true) (refused_at (p.loose q) (move s (p.insn q).op) rule e) (move_other s (p.insn q).op))

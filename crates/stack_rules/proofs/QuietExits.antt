@@ -1,5 +1,5 @@
 -- At a way out that its state allows no rule is broken.
-use Rattle.std.proofs.Common.{◌≡◌, ℕ, Bool, true, arith, Option, Some, None, List, ◌⊎◌, inl, inr, Ok, refl, sym, subst, Contains}
+use Rattle.std.proofs.Common.{◌≡◌, ℕ, Bool, true, arith, Option, Some, None, false, List, ◌⊎◌, inl, inr, Ok, refl, sym, subst, Contains}
 use Rattle.unwinding_law.proofs.Lists.{nowhere}
 use Rattle.ot_base.specs.declared.place.Place.{Place}
 use Rattle.ot_base.specs.declared.warning.Warning.{Warning}
@@ -13,12 +13,13 @@ use Rattle.state_defs.specs.declared.state.State.TheVariants.{Live, Ended, Regs}
 use Rattle.state_defs.specs.Move.{has_near_numbers, move}
 use Rattle.state_defs.specs.Rules.{return_rule, sibling_rule}
 use Rattle.machine_defs.specs.Program.{Program}
+use Rattle.machine_defs.specs.Kept.{moved_at}
 use Rattle.machine_defs.specs.Ways.{is_before_hint, may_leave}
 use Rattle.kept_states.specs.LevelStates.{at}
 use Rattle.kept_states.specs.Neutral.{is_neutral}
-use Rattle.kept_states.proofs.NeutralMoves.{move_stays}
-use Rattle.stack_rules.specs.PointWarns.{KeptWarns, OperationWarns, PointWarns, ReturnWarns, RoleWarns, SiblingWarns}
-use Rattle.stack_rules.specs.Quiet.{IsQuietExit}
+use Rattle.kept_states.proofs.NeutralMoves.{moved_at_ok, stays_at}
+use Rattle.stack_rules.specs.PointWarns.{KeptWarns, PointWarns, ReturnWarns, RoleWarns, SiblingWarns}
+use Rattle.stack_rules.specs.Quiet.{IsQuietExit, is_exit}
 use Rattle.stack_rules.proofs.QuietPoints.{neutral_stays, no_operation, no_row, unmarked_warns_none}
 
 -- a return leaves a state as it is whose numbers are near
@@ -27,10 +28,14 @@ return_stays (Live depth fp bp) near = rw near refl
 return_stays (Ended kind) near = refl
 return_stays (Regs full depth) near = rw near refl
 
-no_way_out : (place : Place) (op : Op) (s : State) (before : Bool) (w : Warning) → (op ≡ Ret) ⊎ (is_neutral op ≡ true) → has_near_numbers s ≡ true → OperationWarns place op s before w → ⊥
-no_way_out place op s before w (inl ret) near k =
-    no_operation place Ret s s before w refl (return_stays s near) (subst (λ (o : Op). OperationWarns place o s before w) ret k)
-no_way_out place op s before w (inr neutral) near k = no_operation place op s s before w (neutral_stays op neutral) (move_stays s op neutral near) k
+-- a point of such an operation leaves a state as it is whose numbers are near, and is no way out that a state has to allow
+exit_stays : (p : Program) (q : ℕ) (s : State) → ((p.insn q).op ≡ Ret) ⊎ (is_neutral (p.insn q).op ≡ true) → has_near_numbers s ≡ true → moved_at p q s ≡ Ok s
+exit_stays p q s (inl ret) near = moved_at_ok p q s s (subst (λ (o : Op). move s o ≡ Ok s) (sym ret) (return_stays s near))
+exit_stays p q s (inr neutral) near = stays_at p q s neutral near
+
+no_switch : (op : Op) → (op ≡ Ret) ⊎ (is_neutral op ≡ true) → is_exit op ≡ false
+no_switch op (inl ret) = subst (λ (o : Op). is_exit o ≡ false) (sym ret) refl
+no_switch op (inr neutral) = neutral_stays op neutral
 
 no_drop : (op : Op) → (op ≡ Ret) ⊎ (is_neutral op ≡ true) → op ≡ RetImm → ⊥
 no_drop op (inl ret) drop = let z : ⊥ = cc in z
@@ -55,7 +60,7 @@ module _ (p : Program) (states : List (Option State)) (q : ℕ) where
   no_kept : (s : State) (w : Warning) → IsQuietExit p states q → at states q ≡ Some s → KeptWarns p states q s w → ⊥
   no_kept s w quiet some (inl k) = unmarked_warns_none (p.place q) s (p.owner q) (p.marks q) w quiet.unmarked k
   no_kept s w quiet some (inr (inl k)) = no_role (p.place q) (p.insn q).op s (may_leave p q) (p.role q) w quiet.op (quiet.returns s some) (quiet.jumps s some) k
-  no_kept s w quiet some (inr (inr (inl k))) = no_way_out (p.place q) (p.insn q).op s (is_before_hint p q) w quiet.op (quiet.near s some) k
+  no_kept s w quiet some (inr (inr (inl k))) = no_operation (p.place q) (p.insn q).op s (moved_at p q s) s (is_before_hint p q) w (no_switch (p.insn q).op quiet.op) (exit_stays p q s quiet.op (quiet.near s some)) k
   no_kept s w quiet some (inr (inr (inr (inl k)))) = no_row (p.place q) s w (quiet.fit s some) k
   no_kept s w quiet some (inr (inr (inr (inr (e, contains, k))))) = nowhere e (subst (λ (edges : List Edge). Contains edges e) quiet.edges contains)
 

@@ -1,5 +1,5 @@
 -- At a quiet point no rule is broken.
-use Rattle.std.proofs.Common.{◌≡◌, ◌≢◌, ℕ, Bool, true, false, ◌<◌, All, ap, get_or, length, arith, Option, Some, None, List, [], ◌∷◌, inl, inr, Ok, refl, sym, ◌∙◌, subst}
+use Rattle.std.proofs.Common.{◌≡◌, ◌≢◌, ℕ, Bool, true, false, ◌<◌, All, ap, get_or, length, arith, Option, Some, None, List, [], ◌∷◌, inl, inr, Result, Ok, refl, sym, ◌∙◌, subst}
 use Rattle.std.specs.Prelude.{IsSome, is_some, option_to_list}
 use Rattle.std.proofs.lemmas.Bool.{cases_lt}
 use Rattle.std.proofs.lemmas.List.{get_or_default}
@@ -16,26 +16,26 @@ use Rattle.machine_defs.specs.declared.flow.Role.{Role}
 use Rattle.machine_defs.specs.declared.flow.Role.TheVariants.{Return, JumpOut, JumpAny}
 use Rattle.state_defs.specs.declared.state.State.{State}
 use Rattle.state_defs.specs.declared.state.HintState.TheVariants.{Restore}
-use Rattle.state_defs.specs.Move.{has_near_numbers, move, to}
+use Rattle.state_defs.specs.Move.{has_near_numbers, to}
 use Rattle.state_defs.specs.Row.{unfit_offset}
 use Rattle.machine_defs.specs.Program.{Program}
-use Rattle.machine_defs.specs.Kept.{brought_along, edges_of, is_at_entry}
+use Rattle.machine_defs.specs.Kept.{brought_along, edges_of, is_at_entry, moved, moved_at}
 use Rattle.machine_defs.specs.Ways.{is_before_hint, may_leave}
 use Rattle.kept_states.specs.LevelStates.{at}
 use Rattle.kept_states.specs.Neutral.{is_neutral}
-use Rattle.kept_states.proofs.NeutralMoves.{move_stays}
+use Rattle.kept_states.proofs.NeutralMoves.{stays_at}
 use Rattle.stack_rules.specs.PointWarns.{ArrivalWarns, EdgeWarns, IsBrought, KeptWarns, MarksWarn, OperationWarns, PointWarns, RoleWarns, RowWarns}
 use Rattle.stack_rules.specs.Quiet.{IsQuiet, Leads, Passes, is_exit, is_unmarked, stays}
 
-same_along : (s : State) (op : Op) (kind : EdgeKind) → kind ≢ Sibling → move s op ≡ Ok s → brought_along s op kind ≡ s ∷ []
-same_along s op Next other m = rw m refl
-same_along s op Taken other m = rw m refl
-same_along s op Fixup other m = refl
-same_along s op Table other m = rw m refl
-same_along s op Sibling other m = absurd (other refl)
+same_along : (s : State) (after : Result State ℕ) (kind : EdgeKind) → kind ≢ Sibling → after ≡ Ok s → brought_along s after kind ≡ s ∷ []
+same_along s after Next other m = ap moved m
+same_along s after Taken other m = ap moved m
+same_along s after Fixup other m = refl
+same_along s after Table other m = ap moved m
+same_along s after Sibling other m = absurd (other refl)
 
-brings_only : (s t u : State) (op : Op) (kind : EdgeKind) (brought : Option State) → brought_along s op kind ≡ u ∷ [] → IsBrought s op kind brought → brought ≡ Some t → t ≡ u
-brings_only s t u op kind brought along is b =
+brings_only : (s t u : State) (after : Result State ℕ) (kind : EdgeKind) (brought : Option State) → brought_along s after kind ≡ u ∷ [] → IsBrought s after kind brought → brought ≡ Some t → t ≡ u
+brings_only s t u after kind brought along is b =
     let one : option_to_list (Some t) ≡ u ∷ [] = subst (λ (o : Option State). option_to_list o ≡ u ∷ []) b (is ∙ along) in
     let same : t ≡ u = cc in same
 
@@ -52,16 +52,16 @@ no_role place op s leaves (JumpOut sym) w h k = let z : ⊥ = cc in z
 no_role place op s leaves JumpAny w h k = let z : ⊥ = cc in z
 no_role place op s leaves _ w h k = k
 
-pub no_operation : (place : Place) (op : Op) (s t : State) (before : Bool) (w : Warning) → is_exit op ≡ false → move s op ≡ Ok t → OperationWarns place op s before w → ⊥
-no_operation place op s t before w h m (inl (rule, (e, f), k)) = let z : ⊥ = cc in z
-no_operation place op s t before w h m (inr (inl ((e, b), k))) = let n : is_exit Switch ≡ false = subst (λ (o : Op). is_exit o ≡ false) e h in let z : ⊥ = cc in z
-no_operation place op s t before w h m (inr (inr ((e, b), k))) = let n : is_exit Iret ≡ false = subst (λ (o : Op). is_exit o ≡ false) e h in let z : ⊥ = cc in z
+pub no_operation : (place : Place) (op : Op) (s : State) (after : Result State ℕ) (t : State) (before : Bool) (w : Warning) → is_exit op ≡ false → after ≡ Ok t → OperationWarns place op s after before w → ⊥
+no_operation place op s after t before w h m (inl (rule, (e, f), k)) = let z : ⊥ = cc in z
+no_operation place op s after t before w h m (inr (inl ((e, b), k))) = let n : is_exit Switch ≡ false = subst (λ (o : Op). is_exit o ≡ false) e h in let z : ⊥ = cc in z
+no_operation place op s after t before w h m (inr (inr ((e, b), k))) = let n : is_exit Iret ≡ false = subst (λ (o : Op). is_exit o ≡ false) e h in let z : ⊥ = cc in z
 
 pub no_row : (place : Place) (s : State) (w : Warning) → unfit_offset s ≡ None → RowWarns place s w → ⊥
 no_row place s w h (a, e, k) = let z : ⊥ = cc in z
 
-moved_along : (s t : State) (op : Op) → move s op ≡ Ok t → brought_along s op Next ≡ t ∷ []
-moved_along s t op m = rw m refl
+moved_along : (s t : State) (after : Result State ℕ) → after ≡ Ok t → brought_along s after Next ≡ t ∷ []
+moved_along s t after m = ap moved m
 
 -- what holds of a single edge holds of each
 pub single : (P : Edge → Type 0) (edges : List Edge) (d : Edge) → length edges ≡ 1 → P (get_or edges 0 d) → All P edges
@@ -99,12 +99,12 @@ module _ (p : Program) (states : List (Option State)) (q : ℕ) where
   no_edge s e w leads (inl (falls, k)) = leads.1 falls
   no_edge s e w leads (inr (inl (sibling, k))) = leads.0 sibling
   no_edge s e w leads (inr (inr (brought, is, arrival))) =
-      no_arrival leads.2.0 e.to brought w leads.2.1 (λ t b. brings_only s t leads.2.0 (p.insn q).op e.kind brought leads.2.2 is b) arrival
+      no_arrival leads.2.0 e.to brought w leads.2.1 (λ t b. brings_only s t leads.2.0 (moved_at p q s) e.kind brought leads.2.2 is b) arrival
 
   no_kept : (s : State) (w : Warning) → IsQuiet p states q → at states q ≡ Some s → KeptWarns p states q s w → ⊥
   no_kept s w quiet some (inl k) = unmarked_warns_none (p.place q) s (p.owner q) (p.marks q) w quiet.unmarked k
   no_kept s w quiet some (inr (inl k)) = no_role (p.place q) (p.insn q).op s (may_leave p q) (p.role q) w quiet.stays k
-  no_kept s w quiet some (inr (inr (inl k))) = let m = quiet.moves s some in no_operation (p.place q) (p.insn q).op s m.0 (is_before_hint p q) w quiet.exit m.1 k
+  no_kept s w quiet some (inr (inr (inl k))) = let m = quiet.moves s some in no_operation (p.place q) (p.insn q).op s (moved_at p q s) m.0 (is_before_hint p q) w quiet.exit m.1 k
   no_kept s w quiet some (inr (inr (inr (inl k)))) = no_row (p.place q) s w (quiet.fit s some) k
   no_kept s w quiet some (inr (inr (inr (inr (e, contains, k))))) = no_edge s e w (All-contains (Leads p states q s) (edges_of p q) e (quiet.leads s some) contains) k
 
@@ -118,13 +118,13 @@ module _ (p : Program) (states : List (Option State)) (q : ℕ) where
   unkept_warns_nothing w none free (inr (unkept, k)) = free k.0
 
   -- where the operation leaves the state as it is, an edge leads on that passes
-  pub pass_leads : (s : State) (edges : List Edge) → at states q ≡ Some s → move s (p.insn q).op ≡ Ok s → All (Passes p states q) edges → All (Leads p states q s) edges
-  pass_leads s edges some m all = λ i d l. (let passes = all i d l in (passes.0, passes.1, (s, passes.2 ∙ some, same_along s (p.insn q).op (get_or edges i d).kind passes.0 m)))
+  pub pass_leads : (s : State) (edges : List Edge) → at states q ≡ Some s → moved_at p q s ≡ Ok s → All (Passes p states q) edges → All (Leads p states q s) edges
+  pass_leads s edges some m all = λ i d l. (let passes = all i d l in (passes.0, passes.1, (s, passes.2 ∙ some, same_along s (moved_at p q s) (get_or edges i d).kind passes.0 m)))
 
   -- a point is quiet whose operation leaves the state as it is, where all edges pass and nothing else is asked of the state
   pub quiet_where_still : is_neutral (p.insn q).op ≡ true → IsSome (at states q) → ((s : State) → at states q ≡ Some s → has_near_numbers s ≡ true) → ((s : State) → at states q ≡ Some s → unfit_offset s ≡ None) → stays (p.role q) ≡ true → is_unmarked (p.marks q) ≡ true → All (Passes p states q) (edges_of p q) → IsQuiet p states q
   quiet_where_still neutral some near fit stays unmarked passes =
-      let same : (s : State) → at states q ≡ Some s → move s (p.insn q).op ≡ Ok s = λ s is. move_stays s (p.insn q).op neutral (near s is) in
+      let same : (s : State) → at states q ≡ Some s → moved_at p q s ≡ Ok s = λ s is. stays_at p q s neutral (near s is) in
       record {
         exit = neutral_stays (p.insn q).op neutral;
         some = some;
@@ -136,9 +136,9 @@ module _ (p : Program) (states : List (Option State)) (q : ℕ) where
       }
 
   -- the edge to the next instruction leads on, where the moved state is kept there
-  pub next_leads : (s t : State) (e : Edge) → e.kind ≡ Next → p.owner e.to ≡ p.owner q → move s (p.insn q).op ≡ Ok t → at states e.to ≡ Some t → Leads p states q s e
+  pub next_leads : (s t : State) (e : Edge) → e.kind ≡ Next → p.owner e.to ≡ p.owner q → moved_at p q s ≡ Ok t → at states e.to ≡ Some t → Leads p states q s e
   next_leads s t e next owner m some = (
     (λ sibling. let k : Next ≡ Sibling = sym next ∙ sibling in let z : ⊥ = cc in z),
     (λ out. out.1 owner),
-    (t, some, subst (λ (kind : EdgeKind). brought_along s (p.insn q).op kind ≡ t ∷ []) (sym next) (moved_along s t (p.insn q).op m)),
+    (t, some, subst (λ (kind : EdgeKind). brought_along s (moved_at p q s) kind ≡ t ∷ []) (sym next) (moved_along s t (moved_at p q s) m)),
   )

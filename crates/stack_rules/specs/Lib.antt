@@ -3,6 +3,7 @@ pub mod Checks
 pub mod Gains
 pub mod PointWarns
 pub mod Telling
+pub mod Holes
 pub mod Unframed
 pub mod Before
 pub mod Quiet

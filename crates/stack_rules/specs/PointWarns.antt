@@ -1,5 +1,5 @@
 -- The warnings of the rules that a graph and kept states decide, by the point at which they are found.
-use Rattle.std.specs.Prelude.{◌≡◌, ◌≢◌, ℕ, ◌⊎◌, Bool, true, false, List, Option, Some, None, Err, option_to_list, Contains, ℤ, pos}
+use Rattle.std.specs.Prelude.{◌≡◌, ◌≢◌, ℕ, ◌⊎◌, Bool, true, false, List, Option, Some, None, Result, Err, option_to_list, Contains, ℤ, pos}
 use Rattle.ot_base.specs.declared.place.Place.{Place}
 use Rattle.ot_base.specs.declared.warning.Warning.{Warning}
 use Rattle.ot_base.specs.declared.rules.TheConstants.{BAD_BRANCH_TARGET, FALLS_THROUGH, RUNS_OFF_SECTION, STATE_MISMATCH, MODIFIED_RETURN, MODIFIED_SIBLING_CALL, UNSUPPORTED_SP_WRITE, OFFSET_OUT_OF_RANGE, JUMP_INTO_SITE, EXIT_NOT_ALLOWED, CALL_INTO_FUNCTION, FUNCTION_WITHOUT_SIZE, RESTORE_WITHOUT_SAVE, RELOCATED_STACK_OFFSET}
@@ -14,11 +14,10 @@ use Rattle.machine_defs.specs.declared.flow.Role.{Role}
 use Rattle.machine_defs.specs.declared.flow.Role.TheVariants.{Return, JumpOut, JumpAny}
 use Rattle.state_defs.specs.declared.state.State.{State}
 use Rattle.state_defs.specs.declared.state.HintState.TheVariants.{Restore}
-use Rattle.state_defs.specs.Move.{move}
 use Rattle.state_defs.specs.Row.{unfit_offset}
 use Rattle.state_defs.specs.Rules.{is_followed, return_rule, sibling_rule, switch_rule, iret_rule, depth_number}
 use Rattle.machine_defs.specs.Program.{Program}
-use Rattle.machine_defs.specs.Kept.{brought_along, edges_of, is_at_entry, is_free}
+use Rattle.machine_defs.specs.Kept.{brought_along, edges_of, is_at_entry, is_free, moved_at}
 use Rattle.machine_defs.specs.Ways.{is_before_hint, may_leave}
 use Rattle.kept_states.specs.LevelStates.{at}
 
@@ -56,14 +55,14 @@ RoleWarns place op s leaves (JumpOut sym) w = SiblingWarns place s leaves w
 RoleWarns place op s leaves JumpAny w = SiblingWarns place s leaves w
 RoleWarns place op s leaves _ w = ⊥
 
--- 7, 8, 9, 10, 11, 15: the operation has no move, right before a hint or not
-abbrev pub RefusalWarns : Place → Op → State → Bool → Warning → Type 0
-RefusalWarns place op s before w = (rule : ℕ) × ((move s op ≡ Err rule) × (rule ≡ UNSUPPORTED_SP_WRITE → before ≡ false)) × (w ≡ bare_warning place rule)
+-- 7, 8, 9, 10, 11, 15: the state has no move, right before a hint or not
+abbrev pub RefusalWarns : Place → Result State ℕ → Bool → Warning → Type 0
+RefusalWarns place after before w = (rule : ℕ) × ((after ≡ Err rule) × (rule ≡ UNSUPPORTED_SP_WRITE → before ≡ false)) × (w ≡ bare_warning place rule)
 
--- and is a way out that isn't allowed
-abbrev pub OperationWarns : Place → Op → State → Bool → Warning → Type 0
-OperationWarns place op s before w =
-    RefusalWarns place op s before w
+-- and the operation is a way out that isn't allowed
+abbrev pub OperationWarns : Place → Op → State → Result State ℕ → Bool → Warning → Type 0
+OperationWarns place op s after before w =
+    RefusalWarns place after before w
     ⊎ ((op ≡ Switch × switch_rule s ≡ Some EXIT_NOT_ALLOWED) × w ≡ bare_warning place EXIT_NOT_ALLOWED)
     ⊎ ((op ≡ Iret × iret_rule s ≡ Some EXIT_NOT_ALLOWED) × w ≡ bare_warning place EXIT_NOT_ALLOWED)
 
@@ -83,15 +82,15 @@ ArrivalWarns p states r brought w =
     ⊎ ((u : State) × (at states r ≡ Some u × is_free (p.hint r) ≡ true) × MismatchWarns (p.place r) u brought w)
 
 -- the state that comes along an edge, if one does
-abbrev pub IsBrought : State → Op → EdgeKind → Option State → Type 0
-IsBrought s op kind brought = option_to_list brought ≡ brought_along s op kind
+abbrev pub IsBrought : State → Result State ℕ → EdgeKind → Option State → Type 0
+IsBrought s after kind brought = option_to_list brought ≡ brought_along s after kind
 
--- 2, 4, 6, 15, 18: an edge of a point; where it leads to another function, the point isn't code that may leave
+-- 2, 4, 6, 15, 18: an edge of a point
 abbrev pub EdgeWarns : Program → List (Option State) → ℕ → State → Edge → Warning → Type 0
 EdgeWarns p states q s e w =
     ((e.kind ≡ Next × p.owner e.to ≢ p.owner q) × w ≡ bare_warning (p.place q) FALLS_THROUGH)
-    ⊎ (e.kind ≡ Sibling × SiblingWarns (p.place q) s false w)
-    ⊎ ((brought : Option State) × IsBrought s (p.insn q).op e.kind brought × ArrivalWarns p states e.to brought w)
+    ⊎ (e.kind ≡ Sibling × SiblingWarns (p.place q) s (may_leave p q) w)
+    ⊎ ((brought : Option State) × IsBrought s (moved_at p q s) e.kind brought × ArrivalWarns p states e.to brought w)
 
 -- some edge of a point
 abbrev pub EdgesWarn : Program → List (Option State) → ℕ → State → Warning → Type 0
@@ -102,7 +101,7 @@ abbrev pub KeptWarns : Program → List (Option State) → ℕ → State → War
 KeptWarns p states q s w =
     MarksWarn (p.place q) s (p.owner q) (p.marks q) w
     ⊎ RoleWarns (p.place q) (p.insn q).op s (may_leave p q) (p.role q) w
-    ⊎ OperationWarns (p.place q) (p.insn q).op s (is_before_hint p q) w
+    ⊎ OperationWarns (p.place q) (p.insn q).op s (moved_at p q s) (is_before_hint p q) w
     ⊎ RowWarns (p.place q) s w
     ⊎ EdgesWarn p states q s w
 

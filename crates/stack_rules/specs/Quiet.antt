@@ -10,11 +10,11 @@ use Rattle.machine_defs.specs.declared.flow.Marks.{Marks}
 use Rattle.machine_defs.specs.declared.flow.Role.{Role}
 use Rattle.machine_defs.specs.declared.flow.Role.TheVariants.{Return, JumpOut, JumpAny}
 use Rattle.state_defs.specs.declared.state.State.{State}
-use Rattle.state_defs.specs.Move.{has_near_numbers, move}
+use Rattle.state_defs.specs.Move.{has_near_numbers}
 use Rattle.state_defs.specs.Row.{unfit_offset}
 use Rattle.state_defs.specs.Rules.{return_rule, sibling_rule}
 use Rattle.machine_defs.specs.Program.{Program}
-use Rattle.machine_defs.specs.Kept.{brought_along, edges_of}
+use Rattle.machine_defs.specs.Kept.{brought_along, edges_of, moved_at}
 use Rattle.kept_states.specs.LevelStates.{at}
 use Rattle.kept_states.specs.Neutral.{is_neutral}
 
@@ -45,13 +45,13 @@ ArePassing p states points = (r : ℕ) → IsTrue (contains nat_cmp points r) �
 
 -- the edge of a point with this state stays in the function, and leads to where the state is kept that is brought along it
 abbrev pub Leads : Program → List (Option State) → ℕ → State → Edge → Type 0
-Leads p states q s e = (e.kind ≢ Sibling) × (e.kind ≡ Next × p.owner e.to ≢ p.owner q → ⊥) × ((t : State) × (at states e.to ≡ Some t) × (brought_along s (p.insn q).op e.kind ≡ t ∷ []))
+Leads p states q s e = (e.kind ≢ Sibling) × (e.kind ≡ Next × p.owner e.to ≢ p.owner q → ⊥) × ((t : State) × (at states e.to ≡ Some t) × (brought_along s (moved_at p q s) e.kind ≡ t ∷ []))
 
 -- the point is one of these
 pub record IsQuiet (p : Program) (states : List (Option State)) (q : ℕ) : Type 0 where
   pub exit : is_exit (p.insn q).op ≡ false
   pub some : IsSome (at states q)
-  pub moves : (s : State) → at states q ≡ Some s → (t : State) × (move s (p.insn q).op ≡ Ok t)
+  pub moves : (s : State) → at states q ≡ Some s → (t : State) × (moved_at p q s ≡ Ok t)
   pub fit : (s : State) → at states q ≡ Some s → unfit_offset s ≡ None
   pub stays : stays (p.role q) ≡ true
   pub unmarked : is_unmarked (p.marks q) ≡ true

@@ -1,9 +1,10 @@
 //! The rules that an edge breaks: where control goes, and what it brings.
 
-ghost use Rattle.std.specs.Prelude.{◌≡◌, ◌≢◌, ◌<◌, ◌↔◌, IsTrue, OnOk, Some, false, length, option_to_list};
+ghost use Rattle.std.specs.Prelude.{◌≡◌, ◌≢◌, ◌<◌, ◌↔◌, IsTrue, OnOk, Some, length, option_to_list};
 ghost use Rattle.state_defs.specs.State.{IsConsistent};
 ghost use Rattle.machine_defs.specs.Program.{Program};
-ghost use Rattle.machine_defs.specs.Kept.{brought_along as brought_along_edge, is_free as is_free_hint};
+ghost use Rattle.machine_defs.specs.Kept.{brought_along as brought_along_edge, is_free as is_free_hint, moved_at};
+ghost use Rattle.machine_defs.specs.Ways.{may_leave as may_leave_at};
 ghost use Rattle.program_graph.specs.Tells.{Tells};
 ghost use Rattle.kept_states.specs.LevelStates.{at};
 ghost use Rattle.stack_rules.specs.Checks.{Checks};
@@ -13,22 +14,21 @@ ghost use Rattle.stack_rules.specs.PointWarns.{ArrivalWarns, EdgeWarns, Mismatch
 use crate::exits::push_sibling;
 use crate::listing::{bare_warning, is_restore, push_if};
 use crate::numbers::{depths_warning, is_same};
-use kept_states::Kept;
+use kept_states::{Kept, step_at};
 use machine_defs::{Edge, EdgeKind};
-use operation_defs::Op;
 use ot_base::rules::{FALLS_THROUGH, RESTORE_WITHOUT_SAVE};
 use ot_base::{NoMemory, Place, Warning};
 use program_graph::Graph;
-use stack_state::step;
 use state_defs::{HintState, State};
 
-/// What a state is brought along an edge as: to a fixup the state before the instruction, else the one after it;
+/// What a state of a point is brought along an edge as: to a fixup the state before the instruction, else the one after it;
 /// to another function none.
-fn brought_along(state: State, op: Op, kind: EdgeKind) -> Option<State>
-    ensures { option_to_list result ≡ brought_along_edge state op kind }
+fn brought_along(graph: &Graph, n: u32, state: State, kind: EdgeKind) -> Option<State>
+    requires { n < length graph.now.parts.points.items }
+    ensures { (p : Program) → Tells p graph.now.parts → option_to_list result ≡ brought_along_edge state (moved_at p n state) kind }
 {
     match kind {
-        EdgeKind::Next | EdgeKind::Taken | EdgeKind::Table => step(state, op).ok(),
+        EdgeKind::Next | EdgeKind::Taken | EdgeKind::Table => step_at(graph, n, state).ok(),
         EdgeKind::Fixup => Some(state),
         EdgeKind::Sibling => None,
     }
@@ -106,30 +106,33 @@ fn push_arrival(
     }
 }
 
-/// The rules 6 and 15 at an edge to another function.
+/// The rules 6 and 15 at an edge to another function, of code that may leave or not.
 fn push_sibling_edge(
     into: &mut Vec<Warning>,
     place: Place,
     state: State,
+    may_leave: bool,
     kind: EdgeKind,
 ) -> Result<(), NoMemory>
-    ensures { OnOk result (IsConsistent state → Gains into.old.items into.new.items (λ w. kind ≡ EdgeKind.Sibling × SiblingWarns place state false w)) }
+    ensures { OnOk result (IsConsistent state → Gains into.old.items into.new.items (λ w. kind ≡ EdgeKind.Sibling × SiblingWarns place state may_leave w)) }
 {
     match kind {
-        EdgeKind::Sibling => push_sibling(into, place, state, false),
+        EdgeKind::Sibling => push_sibling(into, place, state, may_leave),
         EdgeKind::Next | EdgeKind::Taken | EdgeKind::Fixup | EdgeKind::Table => Ok(()),
     }
 }
 
-/// The rules 2, 4, 6, 15 and 18 at an edge of a point.
+/// The rules 2, 4, 6, 15 and 18 at an edge of a point, which may leave or not.
 pub(crate) fn push_edge(
     graph: &Graph,
     kept: &Kept,
     into: &mut Vec<Warning>,
     n: u32,
     state: State,
+    may_leave: bool,
     edge: Edge,
 ) -> Result<(), NoMemory>
+    requires leaves { (p : Program) → Tells p graph.now.parts → may_leave ≡ may_leave_at p n }
     requires points { length kept.now ≡ length graph.now.parts.points.items }
     requires from { n < length graph.now.parts.points.items }
     requires to { edge.to < length graph.now.parts.points.items }
@@ -141,7 +144,7 @@ pub(crate) fn push_edge(
         falls_out(graph, n, edge),
         bare_warning(place, FALLS_THROUGH),
     )?;
-    push_sibling_edge(into, place, state, edge.kind)?;
-    let brought = brought_along(state, graph.insn(n).op, edge.kind);
+    push_sibling_edge(into, place, state, may_leave, edge.kind)?;
+    let brought = brought_along(graph, n, state, edge.kind);
     push_arrival(graph, kept, into, edge.to, brought)
 }

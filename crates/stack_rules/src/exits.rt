@@ -16,7 +16,6 @@ use ot_base::rules::{
     MODIFIED_SIBLING_CALL, RELOCATED_STACK_OFFSET, RUNS_OFF_SECTION, UNSUPPORTED_SP_WRITE,
 };
 use ot_base::{NoMemory, Place, Warning};
-use stack_state::step;
 use state_defs::State;
 
 /// Whether registers and memory are followed in a state.
@@ -166,17 +165,16 @@ fn is_refused(rule: u8, before_hint: bool) -> bool
     rule != UNSUPPORTED_SP_WRITE || !before_hint
 }
 
-/// The rules 7 to 11 and 15, where the operation has no move in its state, right before a hint or not.
+/// The rules 7 to 11 and 15, where the state has no move, right before a hint or not.
 fn push_refusal(
     into: &mut Vec<Warning>,
     place: Place,
-    op: Op,
-    state: State,
+    after: Result<State, u8>,
     before_hint: bool,
 ) -> Result<(), NoMemory>
-    ensures { OnOk result (Gains into.old.items into.new.items (RefusalWarns place op state before_hint)) }
+    ensures { OnOk result (Gains into.old.items into.new.items (RefusalWarns place after before_hint)) }
 {
-    match step(state, op) {
+    match after {
         Ok(_) => Ok(()),
         Err(rule) => push_if(
             into,
@@ -186,18 +184,19 @@ fn push_refusal(
     }
 }
 
-/// The rules 7 to 11 and 15, as far as the operation breaks them in its state, right before a hint or not.
+/// The rules 7 to 11 and 15, as far as the operation breaks them in its state, which has this move, right before a hint or not.
 pub(crate) fn push_operation(
     into: &mut Vec<Warning>,
     place: Place,
     op: Op,
     state: State,
+    after: Result<State, u8>,
     before_hint: bool,
 ) -> Result<(), NoMemory>
-    ensures { OnOk result (Gains into.old.items into.new.items (OperationWarns place op state before_hint)) }
+    ensures { OnOk result (Gains into.old.items into.new.items (OperationWarns place op state after before_hint)) }
 {
     let unallowed = bare_warning(place, EXIT_NOT_ALLOWED);
-    push_refusal(into, place, op, state, before_hint)?;
+    push_refusal(into, place, after, before_hint)?;
     push_if(into, is_unallowed_switch(op, state), unallowed)?;
     push_if(into, is_unallowed_iret(op, state), unallowed)
 }

@@ -8,6 +8,7 @@ mod exits;
 mod force;
 mod frames;
 mod gap;
+mod holes;
 mod listing;
 mod numbers;
 mod offsets;

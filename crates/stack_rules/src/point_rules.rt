@@ -6,6 +6,7 @@ ghost use Rattle.ot_base.specs.declared.rules.TheConstants.{ALTERNATIVES_DISAGRE
 ghost use Rattle.machine_defs.specs.Program.{Program};
 ghost use Rattle.machine_defs.specs.Kept.{is_at_entry};
 ghost use Rattle.machine_defs.specs.Broken.{Warns};
+ghost use Rattle.machine_defs.specs.Ways.{may_leave as may_leave_at};
 ghost use Rattle.program_graph.specs.Tells.{Tells};
 ghost use Rattle.kept_states.specs.LevelStates.{at};
 ghost use Rattle.stack_rules.specs.Checks.{Checks};
@@ -20,27 +21,29 @@ use crate::numbers::push_row;
 use crate::quiet::{is_quiet, is_quiet_jump};
 use crate::quiet_exits::is_quiet_exit;
 use crate::ways::{is_before_hint, may_leave};
-use kept_states::Kept;
+use kept_states::{Kept, step_at};
 use ot_base::rules::{FUNCTION_WITHOUT_SIZE, RESTORE_WITHOUT_SAVE};
 use ot_base::{NoMemory, Place, Warning};
 use program_graph::Graph;
 use state_defs::{HintState, State};
 use std::collections::BTreeSet;
 
-/// The rules at the edges of a point.
+/// The rules at the edges of a point, which may leave or not.
 fn push_edges(
     graph: &Graph,
     kept: &Kept,
     into: &mut Vec<Warning>,
     n: u32,
     state: State,
+    may_leave: bool,
 ) -> Result<(), NoMemory>
+    requires leaves { (p : Program) → Tells p graph.now.parts → may_leave ≡ may_leave_at p n }
     requires points { length kept.now ≡ length graph.now.parts.points.items }
     requires point { n < length graph.now.parts.points.items }
     ensures { OnOk result ((p : Program) → Checks p graph.now.parts kept.now → at kept.now n ≡ Some state → Gains into.old.items into.new.items (EdgesWarn p kept.now n state)) }
 {
     for edge in graph.successors(n) {
-        push_edge(graph, kept, into, n, state, *edge)?;
+        push_edge(graph, kept, into, n, state, may_leave, *edge)?;
     }
     Ok(())
 }
@@ -59,11 +62,13 @@ fn push_kept(
 {
     let place = graph.place(n);
     let op = graph.insn(n).op;
+    let after = step_at(graph, n, state);
+    let leaves = may_leave(graph, n);
     push_marks(into, place, state, graph.owner(n), graph.marks(n))?;
-    push_role(into, place, op, state, may_leave(graph, n), graph.role(n))?;
-    push_operation(into, place, op, state, is_before_hint(graph, n))?;
+    push_role(into, place, op, state, leaves, graph.role(n))?;
+    push_operation(into, place, op, state, after, is_before_hint(graph, n))?;
     push_row(into, place, state)?;
-    push_edges(graph, kept, into, n, state)
+    push_edges(graph, kept, into, n, state, leaves)
 }
 
 /// Whether a point is a RESTORE, and control that comes to some entry may stand there.

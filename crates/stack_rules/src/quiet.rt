@@ -2,10 +2,10 @@
 //! comes next of the function keeps the moved one.
 
 ghost use Rattle.std.specs.Prelude.{◌≡◌, ◌≢◌, ◌<◌, ◌↔◌, ◌∷◌, [], All, IfOk, IsSome, IsTrue, None, Ok, OnOk, Some, false, length, true};
-ghost use Rattle.state_defs.specs.Move.{has_near_numbers, move};
+ghost use Rattle.state_defs.specs.Move.{has_near_numbers};
 ghost use Rattle.state_defs.specs.Row.{unfit_offset};
 ghost use Rattle.machine_defs.specs.Program.{Program};
-ghost use Rattle.machine_defs.specs.Kept.{brought_along, edges_of};
+ghost use Rattle.machine_defs.specs.Kept.{brought_along, edges_of, moved_at};
 ghost use Rattle.program_graph.specs.Tells.{Tells};
 ghost use Rattle.kept_states.specs.LevelStates.{at};
 ghost use Rattle.kept_states.specs.Neutral.{is_neutral as is_neutral_op};
@@ -13,12 +13,11 @@ ghost use Rattle.stack_rules.specs.Quiet.{ArePassing, IsQuiet, Leads, Passes, is
 
 use crate::arrivals::falls_out;
 use crate::numbers::is_same;
-use kept_states::Kept;
+use kept_states::{Kept, step_at};
 use machine_defs::{Edge, EdgeKind, Marks, Role};
 use operation_defs::Op;
 use ot_base::NoMemory;
 use program_graph::Graph;
-use stack_state::step;
 use state_defs::State;
 use std::collections::BTreeSet;
 
@@ -180,12 +179,12 @@ fn steps_to(graph: &Graph, kept: &Kept, n: u32, to: u32) -> bool
     requires points { length kept.now ≡ length graph.now.parts.points.items }
     requires from { n < length graph.now.parts.points.items }
     requires to { to < length graph.now.parts.points.items }
-    ensures { IsTrue result → (p : Program) → Tells p graph.now.parts → (s : State) → at kept.now n ≡ Some s → (t : State) × (move s (p.insn n).op ≡ Ok t) × (at kept.now to ≡ Some t) }
+    ensures { IsTrue result → (p : Program) → Tells p graph.now.parts → (s : State) → at kept.now n ≡ Some s → (t : State) × (moved_at p n s ≡ Ok t) × (at kept.now to ≡ Some t) }
 {
     let Some(before) = kept.state(n) else {
         return false;
     };
-    let Ok(moved) = step(before, graph.insn(n).op) else {
+    let Ok(moved) = step_at(graph, n, before) else {
         return false;
     };
     match kept.state(to) {
@@ -200,7 +199,7 @@ fn moves_to(graph: &Graph, kept: &Kept, n: u32, to: u32) -> bool
     requires points { length kept.now ≡ length graph.now.parts.points.items }
     requires from { n < length graph.now.parts.points.items }
     requires to { to < length graph.now.parts.points.items }
-    ensures { IsTrue result → (p : Program) → Tells p graph.now.parts → (s : State) → at kept.now n ≡ Some s → (t : State) × (move s (p.insn n).op ≡ Ok t) × (at kept.now to ≡ Some t) }
+    ensures { IsTrue result → (p : Program) → Tells p graph.now.parts → (s : State) → at kept.now n ≡ Some s → (t : State) × (moved_at p n s ≡ Ok t) × (at kept.now to ≡ Some t) }
 {
     kept.moves_to(graph.insn(n).op, n, to) || steps_to(graph, kept, n, to)
 }
@@ -213,7 +212,7 @@ fn moves_along(graph: &Graph, kept: &Kept, n: u32, edge: Edge) -> bool
     requires from { n < length graph.now.parts.points.items }
     requires to { edge.to < length graph.now.parts.points.items }
     ensures exit { IsTrue result → (p : Program) → Tells p graph.now.parts → is_exit_op (p.insn n).op ≡ false }
-    ensures moves { IsTrue result → (p : Program) → Tells p graph.now.parts → (s : State) → at kept.now n ≡ Some s → (t : State) × (move s (p.insn n).op ≡ Ok t) }
+    ensures moves { IsTrue result → (p : Program) → Tells p graph.now.parts → (s : State) → at kept.now n ≡ Some s → (t : State) × (moved_at p n s ≡ Ok t) }
     ensures leads { IsTrue result → (p : Program) → Tells p graph.now.parts → (s : State) → at kept.now n ≡ Some s → Leads p kept.now n s edge }
 {
     if !stays_next(graph, n, edge) {

@@ -4,7 +4,7 @@ ghost use Rattle.std.specs.Prelude.{◌≡◌, ◌<◌, ◌||◌, not, is_none, 
 ghost use Rattle.std.specs.List.{list_any, list_all};
 ghost use Rattle.machine_defs.specs.Program.{Program};
 ghost use Rattle.machine_defs.specs.Kept.{edges_of, is_free as is_free_hint};
-ghost use Rattle.machine_defs.specs.Ways.{drops_bytes as drops_bytes_op, is_before_hint as is_before_hint_at, is_fixup as is_fixup_kind, is_sibling as is_sibling_kind, leads_out as leads_out_role, may_leave as may_leave_at};
+ghost use Rattle.machine_defs.specs.Ways.{drops_bytes as drops_bytes_op, is_before_hint as is_before_hint_at, is_fixup as is_fixup_kind, is_joined as is_joined_at, is_next as is_next_kind, is_sibling as is_sibling_kind, leads_out as leads_out_role, leads_outside as leads_outside_at, may_leave as may_leave_at};
 ghost use Rattle.program_graph.specs.Tells.{Tells};
 
 use crate::arrivals::is_free;
@@ -35,16 +35,42 @@ fn has_sibling(edges: &[Edge]) -> bool
         .any(|edge| matches!(edge.kind, EdgeKind::Sibling))
 }
 
-/// Whether code may leave here, whatever its stack is: it is of no function, returns or jumps outside without dropping
-/// bytes, and goes to no function of the program.
+/// Whether each of these edges leads to another function, or to the next instruction.
+fn lead_away_or_on(edges: &[Edge]) -> bool
+    ensures { result ≡ list_all (λ e. is_sibling_kind e.kind || is_next_kind e.kind) edges.now }
+{
+    edges.iter().all(|edge| matches!(edge.kind, EdgeKind::Sibling | EdgeKind::Next))
+}
+
+/// Whether a point is a joined jump: it names a symbol, leads to another function, and nowhere else but to what follows it.
+fn is_joined(graph: &Graph, n: u32) -> bool
+    requires { n < length graph.now.parts.points.items }
+    ensures { (p : Program) → Tells p graph.now.parts → result ≡ is_joined_at p n }
+{
+    if !graph.names_symbol(n) {
+        return false;
+    }
+    let edges = graph.successors(n);
+    has_sibling(edges) && lead_away_or_on(edges)
+}
+
+/// Whether a point returns or jumps outside, drops no bytes as it returns, and goes to no function of the program.
+fn leads_outside(graph: &Graph, n: u32) -> bool
+    requires { n < length graph.now.parts.points.items }
+    ensures { (p : Program) → Tells p graph.now.parts → result ≡ leads_outside_at p n }
+{
+    leads_out(graph.role(n)) && !drops_bytes(graph.insn(n).op) && !has_sibling(graph.successors(n))
+}
+
+/// Whether code may leave here, whatever its stack is: it is of no function, or loose, and leads outside or is a joined jump.
 pub(crate) fn may_leave(graph: &Graph, n: u32) -> bool
     requires { n < length graph.now.parts.points.items }
     ensures { (p : Program) → Tells p graph.now.parts → result ≡ may_leave_at p n }
 {
-    graph.owner(n).is_none()
-        && leads_out(graph.role(n))
-        && !drops_bytes(graph.insn(n).op)
-        && !has_sibling(graph.successors(n))
+    if graph.owner(n).is_some() && !graph.loose(n) {
+        return false;
+    }
+    leads_outside(graph, n) || is_joined(graph, n)
 }
 
 /// Whether an edge leads to a fixup.

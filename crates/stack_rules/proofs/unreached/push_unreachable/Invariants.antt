@@ -11,4 +11,4 @@ use Rattle.stack_rules.proofs.unreached.push_unreachable.Given as goal
 abbrev pub invariant-loop-n : goal.invariant-loop-n
 invariant-loop-n l =
     (p : Program) → Checks p l.graph.parts l.kept
-    → Gains l.fn.into.items l.into.items (OfBelow l.n (λ q w. IsFirstUnreached p q × (w ≡ bare_warning (p.place q) UNREACHABLE_INSTRUCTION)))
+    → Gains l.fn.into.items l.into.items (OfBelow l.n (λ q w. IsFirstUnreached p l.options q × (w ≡ bare_warning (p.place q) UNREACHABLE_INSTRUCTION)))
