@@ -21,7 +21,7 @@ use Rattle.code_commands.specs.Entry.{EndsEntry, IsUnbroken, KeepsEntryRules, Ma
 use Rattle.command_base.specs.Inputs.{IsRead}
 use Rattle.command_base.proofs.Stops.{names_earlier, outside}
 
-pub may_check : (map : Map) (content : Option Content) (input : List ℕ) (names : Option (List ℕ)) (read : List ℕ) (o : Elf) (lists : NameLists) → IsRead content input names read lists → IsObject read o → IsInOrder (coded_by map o) → MayBeChecked map content input names o lists
+pub may_check : (map : Map) (content : Option Content) (input : List ℕ) (names : Option (List ℕ)) (read : List ℕ) (o : Elf) (lists : NameLists) → IsRead content input names read lists → IsObject read o → IsInOrder (coded_by map o) lists → MayBeChecked map content input names o lists
 may_check map content input names read o lists was is order = record { read = read; is_read = was; is = is; in_order = order }
 
 pub names_later : (s : CommandStop) (names : Option (List ℕ)) (content middle : Option Content) (before faults : ℕ) (after : Outside) → middle ≡ content → before ≤ faults → StopsAtNames names (outside middle faults) after s → StopsAtNames names (outside content before) after s

@@ -30,7 +30,7 @@ use Rattle.code_commands.specs.Entry.{AreEntryWarnings, BreaksEntryRule, EndsEnt
 use Rattle.command_base.specs.Refusing.{IsRefusedOrFails, IsWarnedOrFails, Tells}
 use Rattle.command_base.specs.Inputs.{input_refused, input_unread}
 use Rattle.code_commands.specs.EntryRefused.{RefusesEntry}
-use Rattle.command_base.proofs.InputLemmas.{named_in, names_refuse, one_names, unrefused}
+use Rattle.command_base.proofs.InputLemmas.{IsKnown, named_in, names_refuse, one_names, one_reading, unrefused}
 use Rattle.command_base.proofs.Content.{held_is}
 use Rattle.command_base.proofs.Stops.{concluded_usage, done_not_refused, is_read, left, names_fault, names_left, names_no_usage, not_memory, of_stop, one_text, read_no_usage, unreadable, warned_text, whole_text}
 use Rattle.code_commands.proofs.EntryUncheckable.{order_excluded}
@@ -122,14 +122,14 @@ none_warned : (o : Coded) (lists : NameLists) (options : EntryOptions) (warnings
 none_warned o lists options [] are unbroken = refl
 none_warned o lists options (w ∷ warnings) are unbroken = absurd (unbroken w.place w.rule w.a w.b ((are.all w).0 (here w warnings)))
 
-pub stop_left : OneOutcome → (s : CommandStop) (map : Map) (input : List ℕ) (names : Option (List ℕ)) (read : List ℕ) (o : Elf) (lists : NameLists) (held : Content) (before after : Outside) (out out' : Output) (x : Status) → before.content ≡ Some held → reading held input MAX_FILE_BYTES ≡ Ok read → HasNames (Some held) names lists → IsObject read o → IsInOrder (coded_by map o) → StopsEntry map input names before after s → Concludes s out out' x → IsAnswered x
+pub stop_left : OneOutcome → (s : CommandStop) (map : Map) (input : List ℕ) (names : Option (List ℕ)) (read : List ℕ) (o : Elf) (lists : NameLists) (held : Content) (before after : Outside) (out out' : Output) (x : Status) → before.content ≡ Some held → reading held input MAX_FILE_BYTES ≡ Ok read → HasNames (Some held) names lists → IsObject read o → IsInOrder (coded_by map o) lists → StopsEntry map input names before after s → Concludes s out out' x → IsAnswered x
 stop_left one s map input names read o lists held before after out out' x c is has of order (unread h) t = unread_left MAX_FILE_BYTES s input read held before after out out' x c is h t
 stop_left one s map input names read o lists held before after out out' x c is has of order (without_names other may h) t = names_left s names lists held before after out out' x c has h t
 stop_left one s map input names read o lists held before after out out' x c is has of order (refused other others was h) t =
-    let same = one_text MAX_FILE_BYTES held input other read (is_read MAX_FILE_BYTES input other held before.content c was.may) is in
-    no_memory_left s out out' x (order_excluded one s map read o of order (subst (λ (b : List ℕ). IsUncheckable map b s) same h)) t
+    let known : IsKnown before input names read lists = record { held = held; told = c; is = is; named = has } in
+    no_memory_left s out out' x (order_excluded one s map read lists o of order (one_reading (λ b l. IsUncheckable map b l s) before input names read other lists others known was h)) t
 
-pub entry_accepts : OneOutcome → (map : Map) (options : EntryOptions) (input : List ℕ) (names : Option (List ℕ)) (read : List ℕ) (o : Elf) (lists : NameLists) (held : Content) (before after : Outside) (out out' : Output) (x : Status) → before.content ≡ Some held → reading held input MAX_FILE_BYTES ≡ Ok read → HasNames (Some held) names lists → IsObject read o → IsInOrder (coded_by map o) → IsUnbroken (coded_by map o) lists options → EndsEntry map options input names before after out out' x → IsAnswered x
+pub entry_accepts : OneOutcome → (map : Map) (options : EntryOptions) (input : List ℕ) (names : Option (List ℕ)) (read : List ℕ) (o : Elf) (lists : NameLists) (held : Content) (before after : Outside) (out out' : Output) (x : Status) → before.content ≡ Some held → reading held input MAX_FILE_BYTES ≡ Ok read → HasNames (Some held) names lists → IsObject read o → IsInOrder (coded_by map o) lists → IsUnbroken (coded_by map o) lists options → EndsEntry map options input names before after out out' x → IsAnswered x
 entry_accepts one map options input names read o lists held before after out out' Done c is has of order clean (done p others may unbroken keeps same) = inl refl
 entry_accepts one map options input names read o lists held before after out out' x c is has of order clean (warned p others warnings may are some t) =
     let own : IsUnbroken (coded_by map p) others options =
@@ -142,7 +142,7 @@ not_done_left : (x : Status) → x ≢ Done → IsAnswered x → IsWarnedOrFails
 not_done_left x other (inl e) = absurd (other e)
 not_done_left x other (inr h) = inr h
 
-pub entry_warns : OneOutcome → (map : Map) (options : EntryOptions) (input : List ℕ) (names : Option (List ℕ)) (read : List ℕ) (o : Elf) (lists : NameLists) (held : Content) (before after : Outside) (out out' : Output) (x : Status) → before.content ≡ Some held → reading held input MAX_FILE_BYTES ≡ Ok read → HasNames (Some held) names lists → IsObject read o → IsInOrder (coded_by map o) → BreaksEntryRule (coded_by map o) lists options → EndsEntry map options input names before after out out' x → IsWarnedOrFails x
+pub entry_warns : OneOutcome → (map : Map) (options : EntryOptions) (input : List ℕ) (names : Option (List ℕ)) (read : List ℕ) (o : Elf) (lists : NameLists) (held : Content) (before after : Outside) (out out' : Output) (x : Status) → before.content ≡ Some held → reading held input MAX_FILE_BYTES ≡ Ok read → HasNames (Some held) names lists → IsObject read o → IsInOrder (coded_by map o) lists → BreaksEntryRule (coded_by map o) lists options → EndsEntry map options input names before after out out' x → IsWarnedOrFails x
 entry_warns one map options input names read o lists held before after out out' Done c is has of order breaks (done p others may unbroken keeps same) =
     let own : IsUnbroken (coded_by map o) lists options =
     subst (λ (l : NameLists). IsUnbroken (coded_by map o) l options) (same_lists map input names p lists others held before.content c has may)
@@ -156,7 +156,7 @@ entry_warns one map options input names read o lists held before after out out' 
 pub entry_refuse : (s : CommandStop) (map : Map) (input : List ℕ) (names : Option (List ℕ)) (held : Content) (before after : Outside) → before.content ≡ Some held → StopsEntry map input names before after s → status_of s ≡ Refused → RefusesEntry map input names held s
 entry_refuse s map input names held before after c (unread h) e = input_unread (unreadable MAX_FILE_BYTES s input held before after c h e)
 entry_refuse s map input names held before after c (without_names read may h) e =
-    names_refuse (λ b l t. IsUncheckable map b t) s input names held read before after c may h e
+    names_refuse (IsUncheckable map) s input names held read before after c may h e
 entry_refuse s map input names held before after c (refused read lists was h) e =
     input_refused read lists (is_read MAX_FILE_BYTES input read held before.content c was.may) (named_in names held before.content lists c was.named) h (not_memory s e)
 
@@ -169,19 +169,19 @@ entry_told map options input names held before after out out' x c (stopped s h t
 -- bytes of an object in order are refused by no step
 pub unrefused_in : OneOutcome → (s : CommandStop) (map : Map) (input : List ℕ) (names : Option (List ℕ)) (held : Content) (o : Elf) (lists : NameLists) (content : Option Content) → content ≡ Some held → MayBeChecked map content input names o lists → RefusesEntry map input names held s → ⊥
 unrefused_in one s map input names held o lists content c may why =
-    unrefused (λ b l t. IsUncheckable map b t) s input names held may.read lists (is_read MAX_FILE_BYTES input may.read held content c may.is_read.may) (named_in names held content lists c may.is_read.named)
-    (λ t no. order_excluded one t map may.read o may.is may.in_order no) why
+    unrefused (IsUncheckable map) s input names held may.read lists (is_read MAX_FILE_BYTES input may.read held content c may.is_read.may) (named_in names held content lists c may.is_read.named)
+    (λ t no. order_excluded one t map may.read lists o may.is may.in_order no) why
 
-unchecked_no_usage : (s : CommandStop) (map : Map) (bytes : List ℕ) → IsUncheckable map bytes s → status_of s ≢ Usage
-unchecked_no_usage s map bytes (malformed fault) e = cc
-unchecked_no_usage s map bytes (unlinked o is some why worded) e = cc
-unchecked_no_usage s map bytes (unflowed o is some linked why) e = cc
-unchecked_no_usage s map bytes no_memory e = cc
+unchecked_no_usage : (s : CommandStop) (map : Map) (bytes : List ℕ) (lists : NameLists) → IsUncheckable map bytes lists s → status_of s ≢ Usage
+unchecked_no_usage s map bytes lists (malformed fault) e = cc
+unchecked_no_usage s map bytes lists (unlinked o is some why worded) e = cc
+unchecked_no_usage s map bytes lists (unflowed o is some linked why) e = cc
+unchecked_no_usage s map bytes lists no_memory e = cc
 
 pub stop_no_usage : (s : CommandStop) (map : Map) (input : List ℕ) (names : Option (List ℕ)) (before after : Outside) → StopsEntry map input names before after s → status_of s ≢ Usage
 stop_no_usage s map input names before after (unread h) e = read_no_usage MAX_FILE_BYTES s input before after h e
 stop_no_usage s map input names before after (without_names read may h) e = names_no_usage s names before after h e
-stop_no_usage s map input names before after (refused read lists was h) e = unchecked_no_usage s map read h e
+stop_no_usage s map input names before after (refused read lists was h) e = unchecked_no_usage s map read lists h e
 
 pub entry_refused : OneOutcome → (map : Map) (options : EntryOptions) (input : List ℕ) (names : Option (List ℕ)) (held : Content) (before after : Outside) (out out' : Output) (x : Status) (s : CommandStop) → EndsEntry map options input names before after out out' x → before.content ≡ Some held → RefusesEntry map input names held s → IsRefusedOrFails x
 entry_refused one map options input names held before after out out' Done s (done o lists may unbroken keeps same) c why = absurd (unrefused_in one s map input names held o lists before.content c may why)
@@ -191,16 +191,16 @@ entry_refused one map options input names held before after out out' x s (stoppe
 
 -- ---- faults
 
-unchecked_no_fault : (s : CommandStop) (map : Map) (bytes : List ℕ) → IsUncheckable map bytes s → status_of s ≢ FileFault
-unchecked_no_fault s map bytes (malformed fault) e = cc
-unchecked_no_fault s map bytes (unlinked o is some why worded) e = cc
-unchecked_no_fault s map bytes (unflowed o is some linked why) e = cc
-unchecked_no_fault s map bytes no_memory e = cc
+unchecked_no_fault : (s : CommandStop) (map : Map) (bytes : List ℕ) (lists : NameLists) → IsUncheckable map bytes lists s → status_of s ≢ FileFault
+unchecked_no_fault s map bytes lists (malformed fault) e = cc
+unchecked_no_fault s map bytes lists (unlinked o is some why worded) e = cc
+unchecked_no_fault s map bytes lists (unflowed o is some linked why) e = cc
+unchecked_no_fault s map bytes lists no_memory e = cc
 
 pub stop_fault : (s : CommandStop) (map : Map) (input : List ℕ) (names : Option (List ℕ)) (before after : Outside) → StopsEntry map input names before after s → status_of s ≡ FileFault → Rose before.faults after.faults
 stop_fault s map input names before after (unread h) e = read_fault MAX_FILE_BYTES s input before after h e
 stop_fault s map input names before after (without_names read may h) e = names_fault s names before after h e
-stop_fault s map input names before after (refused read lists was h) e = absurd (unchecked_no_fault s map read h e)
+stop_fault s map input names before after (refused read lists was h) e = absurd (unchecked_no_fault s map read lists h e)
 
 -- a fault of a file is answered only where its count rose
 pub entry_fault : (map : Map) (options : EntryOptions) (input : List ℕ) (names : Option (List ℕ)) (before after : Outside) (out out' : Output) (x : Status) → EndsEntry map options input names before after out out' x → x ≡ FileFault → Rose before.faults after.faults

@@ -1,6 +1,7 @@
 -- An object in order has no fault: where there is none, none is told.
 use Rattle.std.proofs.Common.{◌≡◌, ℕ, List, [], drop, refl, sym, ap, ◌∙◌}
 use Rattle.std.specs.Prelude.{◌≢◌, Some, None, Option, Result, Ok, Err, slice_get}
+use Rattle.ot_base.specs.NameLists.{NameLists}
 use Rattle.operation_defs.specs.declared.insn.Insn.{Insn}
 use Rattle.x86_map.specs.declared.map.Map.{Map}
 use Rattle.flow_defs.specs.Coded.{Coded}
@@ -41,15 +42,15 @@ not_undecoded one o sec (text.At off why) code h =
 not_undecoded one o sec text.NoMemory code h = h
 
 -- an object that is linked has no fault of linking
-pub not_unlinked : OneOutcome → (o : Coded) (why : LinkFault) → why ≢ link.NoMemory → IsLinked o → IsLinkFault o why → ⊥
-not_unlinked one o (link.Text sec why) some linked h = not_undecoded one o sec why linked.before.before.code h
-not_unlinked one o (link.Special (special.At sec entry why)) some linked h = first_of_none (special_faults o.elf) _ linked.before.before.special h.1
-not_unlinked one o (link.Special special.NoMemory) some linked h = h.1
-not_unlinked one o (link.Index (index.Func sym)) some linked h = none_and_some _ sym linked.before.functions h.1
-not_unlinked one o (link.Index index.NoMemory) some linked h = h.1
-not_unlinked one o (link.Site (site.At entry why)) some linked h = none_and_some {A = SiteWhy} _ why (linked.sites entry h.1.inside) h.1.here
-not_unlinked one o (link.Site site.NoMemory) some linked h = h.1
-not_unlinked one o link.NoMemory some linked h = some refl
+pub not_unlinked : OneOutcome → (o : Coded) (lists : NameLists) (why : LinkFault) → why ≢ link.NoMemory → IsLinked o lists → IsLinkFault o lists why → ⊥
+not_unlinked one o lists (link.Text sec why) some linked h = not_undecoded one o sec why linked.before.before.code h
+not_unlinked one o lists (link.Special (special.At sec entry why)) some linked h = first_of_none (special_faults o.elf lists) _ linked.before.before.special h.1
+not_unlinked one o lists (link.Special special.NoMemory) some linked h = h.1
+not_unlinked one o lists (link.Index (index.Func sym)) some linked h = none_and_some _ sym linked.before.functions h.1
+not_unlinked one o lists (link.Index index.NoMemory) some linked h = h.1
+not_unlinked one o lists (link.Site (site.At entry why)) some linked h = none_and_some {A = SiteWhy} _ why (linked.sites entry h.1.inside) h.1.here
+not_unlinked one o lists (link.Site site.NoMemory) some linked h = h.1
+not_unlinked one o lists link.NoMemory some linked h = some refl
 
 -- one whose flow is in order has no fault of its flow
 pub not_unflowed : (o : Coded) (why : FlowFault) → why ≢ flow.NoMemory → flow_faults o ≡ [] → IsFirstFlowFault o why → ⊥

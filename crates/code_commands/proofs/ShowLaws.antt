@@ -93,12 +93,12 @@ show_printed map input names function before after out out' x (stopped s h t) e 
 
 -- ---- where IN has code of what is asked for
 
-stop_answered : OneOutcome → (s : CommandStop) (map : Map) (input : List ℕ) (names function : Option (List ℕ)) (read : List ℕ) (o : Elf) (lists : NameLists) (held : Content) (before after : Outside) (out out' : Output) (x : Status) → before.content ≡ Some held → reading held input MAX_FILE_BYTES ≡ Ok read → HasNames (Some held) names lists → IsObject read o → IsInOrder (coded_by map o) → HasCode o (program_of (coded_by map o) lists) function → StopsShow map input names function before after s → Concludes s out out' x → IsAnswered x
+stop_answered : OneOutcome → (s : CommandStop) (map : Map) (input : List ℕ) (names function : Option (List ℕ)) (read : List ℕ) (o : Elf) (lists : NameLists) (held : Content) (before after : Outside) (out out' : Output) (x : Status) → before.content ≡ Some held → reading held input MAX_FILE_BYTES ≡ Ok read → HasNames (Some held) names lists → IsObject read o → IsInOrder (coded_by map o) lists → HasCode o (program_of (coded_by map o) lists) function → StopsShow map input names function before after s → Concludes s out out' x → IsAnswered x
 stop_answered one s map input names function read o lists held before after out out' x c is has of order code (unchecked h) t = stop_left one s map input names read o lists held before after out out' x c is has of order h t
 stop_answered one s map input names function read o lists held before after out out' x c is has of order code (no_function p others name may given none says) t =
     absurd (lacks_here map o p lists others function name (same_object map input names read o p others held before.content c is of may) (same_lists map input names p lists others held before.content c has may) given code none)
 
-pub show_accepts : OneOutcome → (map : Map) (input : List ℕ) (names function : Option (List ℕ)) (read : List ℕ) (o : Elf) (lists : NameLists) (held : Content) (before after : Outside) (out out' : Output) (x : Status) → before.content ≡ Some held → reading held input MAX_FILE_BYTES ≡ Ok read → HasNames (Some held) names lists → IsObject read o → IsInOrder (coded_by map o) → HasCode o (program_of (coded_by map o) lists) function → EndsShow map input names function before after out out' x → IsAnswered x
+pub show_accepts : OneOutcome → (map : Map) (input : List ℕ) (names function : Option (List ℕ)) (read : List ℕ) (o : Elf) (lists : NameLists) (held : Content) (before after : Outside) (out out' : Output) (x : Status) → before.content ≡ Some held → reading held input MAX_FILE_BYTES ≡ Ok read → HasNames (Some held) names lists → IsObject read o → IsInOrder (coded_by map o) lists → HasCode o (program_of (coded_by map o) lists) function → EndsShow map input names function before after out out' x → IsAnswered x
 show_accepts one map input names function read o lists held before after out out' x c is has of order code (shown p others states may t) = text_left _ out out' x t
 show_accepts one map input names function read o lists held before after out out' x c is has of order code (stopped s h t) = stop_answered one s map input names function read o lists held before after out out' x c is has of order code h t
 

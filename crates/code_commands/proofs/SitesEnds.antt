@@ -19,7 +19,8 @@ use Rattle.command_base.specs.declared.status.Status.{Status}
 use Rattle.command_base.specs.declared.status.Status.TheVariants as status
 use Rattle.command_base.specs.declared.stop.CommandStop.{CommandStop}
 use Rattle.code_commands.specs.SitesOrder.{GetsSites}
-use Rattle.code_commands.specs.Sites.{EndsSites, IsRead, ListsSites, MayGetSites, StopsSites, done, refused, stopped, unread, unwritten, without_names}
+use Rattle.command_base.specs.Inputs.{IsRead}
+use Rattle.code_commands.specs.Sites.{EndsSites, ListsSites, MayGetSites, StopsSites, done, refused, stopped, unread, unwritten, without_names}
 use Rattle.command_base.proofs.Stops.{names_earlier, outside, read_earlier, write_earlier}
 
 -- the bytes with the lists that were made list the sites
@@ -34,14 +35,14 @@ lists_sites one o lists file is has =
       only = λ others held. one (with_sites_object o.elf sites) others sites held h.holds;
     }
 
-pub may_get : (map : Map) (content : Option Content) (input : List ℕ) (names : Option (List ℕ)) (read : List ℕ) (o : Elf) (file : List ℕ) → IsRead content input names read → IsObject read o → GetsSites (coded_by map o) → ListsSites (coded_by map o) file → MayGetSites map content input names o file
-may_get map content input names read o file was is gets lists = record { read = read; is_read = was; is = is; gets = gets; lists = lists }
+pub may_get : (map : Map) (content : Option Content) (input : List ℕ) (names : Option (List ℕ)) (read : List ℕ) (lists : NameLists) (o : Elf) (file : List ℕ) → IsRead content input names read lists → IsObject read o → GetsSites (coded_by map o) lists → ListsSites (coded_by map o) file → MayGetSites map content input names o file
+may_get map content input names read lists o file was is gets told = record { read = read; under = lists; is_read = was; is = is; gets = gets; lists = told }
 
 -- fewer faults at the beginning
 stops_earlier : (s : CommandStop) (map : Map) (input output : List ℕ) (names : Option (List ℕ)) (content : Option Content) (before middle : ℕ) (after : Outside) → before ≤ middle → StopsSites map input output names (outside content middle) after s → StopsSites map input output names (outside content before) after s
 stops_earlier s map input output names content before middle after later (unread h kept) = unread (read_earlier _ s input content before middle after later h) kept
 stops_earlier s map input output names content before middle after later (without_names read may h kept) = without_names read may (names_earlier s names content before middle after later h) kept
-stops_earlier s map input output names content before middle after later (refused read is h kept) = refused read is h kept
+stops_earlier s map input output names content before middle after later (refused read lists is h kept) = refused read lists is h kept
 stops_earlier s map input output names content before middle after later (unwritten o file may h others) = unwritten o file may (write_earlier s output content before middle after later h) others
 
 ends_earlier : (map : Map) (input output : List ℕ) (names : Option (List ℕ)) (content : Option Content) (before middle : ℕ) (after : Outside) (out out' : Output) (x : Status) → before ≤ middle → EndsSites map input output names (outside content middle) after out out' x → EndsSites map input output names (outside content before) after out out' x
@@ -59,9 +60,8 @@ pub written_as : (before after : Option Content) (output file shown : List ℕ) 
 written_as before after output file shown same h = subst (λ (bytes : List ℕ). after ≡ writing before output bytes) same h
 
 -- what is known when IN and the names file have been read
-pub was_read : (before middle after : Option Content) (input : List ℕ) (names : Option (List ℕ)) (bytes shown : List ℕ) (lists : NameLists) → middle ≡ before → after ≡ middle → shown ≡ bytes → MayRead MAX_FILE_BYTES before input (Ok bytes) → HasNames middle names lists → IsRead after input names shown
+pub was_read : (before middle after : Option Content) (input : List ℕ) (names : Option (List ℕ)) (bytes shown : List ℕ) (lists : NameLists) → middle ≡ before → after ≡ middle → shown ≡ bytes → MayRead MAX_FILE_BYTES before input (Ok bytes) → HasNames middle names lists → IsRead after input names shown lists
 was_read before middle after input names bytes shown lists kept still same may named = record {
   may = subst (λ (content : Option Content). MayRead MAX_FILE_BYTES content input (Ok shown)) (sym (still ∙ kept)) (subst (λ (b : List ℕ). MayRead MAX_FILE_BYTES before input (Ok b)) (sym same) may);
-  lists = lists;
   named = subst (λ (content : Option Content). HasNames content names lists) (sym still) named;
 }

@@ -25,7 +25,7 @@ use Rattle.code_commands.specs.SitesOrder.{GetsSites}
 use Rattle.command_base.specs.Refusing.{IsRefusedOrFails, Tells}
 use Rattle.command_base.specs.Inputs.{input_refused, input_unread}
 use Rattle.code_commands.specs.SitesRefused.{RefusesSites}
-use Rattle.command_base.proofs.InputLemmas.{named_in, names_refuse, unrefused}
+use Rattle.command_base.proofs.InputLemmas.{IsKnown, named_in, names_refuse, one_reading, unrefused}
 use Rattle.code_commands.specs.Sites.{EndsSites, GetNoSites, MayGetSites, OutListsSites, SitesMayChange, StopsSites, done, has_sites, malformed, no_memory, refused, stopped, too_many_sections, too_many_symbols, unflowed, unlinked, unread, unwritten, without_names}
 use Rattle.command_base.proofs.Content.{get-insert_same, held_is, written_others}
 use Rattle.code_commands.proofs.SitesGets.{gets_excluded}
@@ -57,7 +57,7 @@ sites_silent map input output names before after out out' x (stopped s h t) is =
 stop_keeps : (s : CommandStop) (map : Map) (input output : List ℕ) (names : Option (List ℕ)) (before after : Outside) (out out' : Output) (x : Status) → StopsSites map input output names before after s → Concludes s out out' x → x ≢ FileFault → x ≢ NoMemory → after.content ≡ before.content
 stop_keeps s map input output names before after out out' x (unread h kept) t f m = kept
 stop_keeps s map input output names before after out out' x (without_names read may h kept) t f m = kept
-stop_keeps s map input output names before after out out' x (refused read is h kept) t f m = kept
+stop_keeps s map input output names before after out out' x (refused read lists is h kept) t f m = kept
 stop_keeps s map input output names before after out out' x (unwritten o file may h others) t f m = absurd (neither x (write_told s output before after out out' x h t) f m)
 
 pub sites_unchanged : (map : Map) (input output : List ℕ) (names : Option (List ℕ)) (before after : Outside) (out out' : Output) (x : Status) → EndsSites map input output names before after out out' x → x ≢ Done → x ≢ FileFault → x ≢ NoMemory → after.content ≡ before.content
@@ -70,7 +70,7 @@ Left map input output names before after = (after.content ≡ before.content) �
 stop_changes : (s : CommandStop) (map : Map) (input output : List ℕ) (names : Option (List ℕ)) (before after : Outside) → StopsSites map input output names before after s → Left map input output names before after
 stop_changes s map input output names before after (unread h kept) = inl kept
 stop_changes s map input output names before after (without_names read may h kept) = inl kept
-stop_changes s map input output names before after (refused read is h kept) = inl kept
+stop_changes s map input output names before after (refused read lists is h kept) = inl kept
 stop_changes s map input output names before after (unwritten o file may h others) = inr (record { object = o; written = file; may = may; others = others })
 
 pub sites_changes : (map : Map) (input output : List ℕ) (names : Option (List ℕ)) (before after : Outside) (out out' : Output) (x : Status) → EndsSites map input output names before after out out' x → Left map input output names before after
@@ -79,15 +79,15 @@ sites_changes map input output names before after out out' x (stopped s h t) = s
 
 -- ---- where IN gets site lists
 
-stop_left : OneOutcome → (s : CommandStop) (map : Map) (input output : List ℕ) (names : Option (List ℕ)) (read : List ℕ) (o : Elf) (lists : NameLists) (held : Content) (before after : Outside) (out out' : Output) (x : Status) → before.content ≡ Some held → reading held input MAX_FILE_BYTES ≡ Ok read → HasNames (Some held) names lists → IsObject read o → GetsSites (coded_by map o) → StopsSites map input output names before after s → Concludes s out out' x → IsAnswered x
+stop_left : OneOutcome → (s : CommandStop) (map : Map) (input output : List ℕ) (names : Option (List ℕ)) (read : List ℕ) (o : Elf) (lists : NameLists) (held : Content) (before after : Outside) (out out' : Output) (x : Status) → before.content ≡ Some held → reading held input MAX_FILE_BYTES ≡ Ok read → HasNames (Some held) names lists → IsObject read o → GetsSites (coded_by map o) lists → StopsSites map input output names before after s → Concludes s out out' x → IsAnswered x
 stop_left one s map input output names read o lists held before after out out' x c is has of gets (unread h kept) t = unread_left MAX_FILE_BYTES s input read held before after out out' x c is h t
 stop_left one s map input output names read o lists held before after out out' x c is has of gets (without_names other may h kept) t = names_left s names lists held before after out out' x c has h t
-stop_left one s map input output names read o lists held before after out out' x c is has of gets (refused other was h kept) t =
-    let same = one_text MAX_FILE_BYTES held input other read (is_read MAX_FILE_BYTES input other held before.content c was.may) is in
-    no_memory_left s out out' x (gets_excluded one s map read o of gets (subst (λ (b : List ℕ). GetNoSites map b s) same h)) t
+stop_left one s map input output names read o lists held before after out out' x c is has of gets (refused other others was h kept) t =
+    let known : IsKnown before input names read lists = record { held = held; told = c; is = is; named = has } in
+    no_memory_left s out out' x (gets_excluded one s map read lists o of gets (one_reading (λ b l. GetNoSites map b l s) before input names read other lists others known was h)) t
 stop_left one s map input output names read o lists held before after out out' x c is has of gets (unwritten p file may h others) t = fault_left x (write_told s output before after out out' x h t)
 
-pub sites_left : OneOutcome → (map : Map) (input output : List ℕ) (names : Option (List ℕ)) (read : List ℕ) (o : Elf) (lists : NameLists) (held : Content) (before after : Outside) (out out' : Output) (x : Status) → before.content ≡ Some held → reading held input MAX_FILE_BYTES ≡ Ok read → HasNames (Some held) names lists → IsObject read o → GetsSites (coded_by map o) → EndsSites map input output names before after out out' x → IsAnswered x
+pub sites_left : OneOutcome → (map : Map) (input output : List ℕ) (names : Option (List ℕ)) (read : List ℕ) (o : Elf) (lists : NameLists) (held : Content) (before after : Outside) (out out' : Output) (x : Status) → before.content ≡ Some held → reading held input MAX_FILE_BYTES ≡ Ok read → HasNames (Some held) names lists → IsObject read o → GetsSites (coded_by map o) lists → EndsSites map input output names before after out out' x → IsAnswered x
 sites_left one map input output names read o lists held before after out out' Done c is has of gets (done p file may e same) = inl refl
 sites_left one map input output names read o lists held before after out out' x c is has of gets (stopped s h t) = stop_left one s map input output names read o lists held before after out out' x c is has of gets h t
 
@@ -96,9 +96,9 @@ sites_left one map input output names read o lists held before after out out' x 
 sites_refuse : (s : CommandStop) (map : Map) (input output : List ℕ) (names : Option (List ℕ)) (held : Content) (before after : Outside) → before.content ≡ Some held → StopsSites map input output names before after s → status_of s ≡ Refused → RefusesSites map input names held s
 sites_refuse s map input output names held before after c (unread h kept) e = input_unread (unreadable MAX_FILE_BYTES s input held before after c h e)
 sites_refuse s map input output names held before after c (without_names read may h kept) e =
-    names_refuse (λ b l t. GetNoSites map b t) s input names held read before after c may h e
-sites_refuse s map input output names held before after c (refused read was h kept) e =
-    input_refused read was.lists (is_read MAX_FILE_BYTES input read held before.content c was.may) (named_in names held before.content was.lists c was.named) h (not_memory s e)
+    names_refuse (GetNoSites map) s input names held read before after c may h e
+sites_refuse s map input output names held before after c (refused read lists was h kept) e =
+    input_refused read lists (is_read MAX_FILE_BYTES input read held before.content c was.may) (named_in names held before.content lists c was.named) h (not_memory s e)
 sites_refuse s map input output names held before after c (unwritten o file may h others) e = absurd (write_not_refused s output before after h e)
 
 pub sites_told : (map : Map) (input output : List ℕ) (names : Option (List ℕ)) (held : Content) (before after : Outside) (out out' : Output) (x : Status) → before.content ≡ Some held → EndsSites map input output names before after out out' x → x ≡ Refused → Tells (RefusesSites map input names held) out.written out'.written
@@ -108,8 +108,8 @@ sites_told map input output names held before after out out' x c (stopped s h t)
 
 refused_not_done : OneOutcome → (s : CommandStop) (map : Map) (input output : List ℕ) (names : Option (List ℕ)) (held : Content) (before after : Outside) (out out' : Output) (x : Status) → before.content ≡ Some held → RefusesSites map input names held s → EndsSites map input output names before after out out' x → x ≢ Done
 refused_not_done one s map input output names held before after out out' Done c why (done o file may e same) is =
-    unrefused (λ b l t. GetNoSites map b t) s input names held may.read may.is_read.lists (is_read MAX_FILE_BYTES input may.read held before.content c may.is_read.may) (named_in names held before.content may.is_read.lists c may.is_read.named)
-    (λ t no. gets_excluded one t map may.read o may.is may.gets no) why
+    unrefused (GetNoSites map) s input names held may.read may.under (is_read MAX_FILE_BYTES input may.read held before.content c may.is_read.may) (named_in names held before.content may.under c may.is_read.named)
+    (λ t no. gets_excluded one t map may.read may.under o may.is may.gets no) why
 refused_not_done one s map input output names held before after out out' x c why (stopped told h t) is = concluded_not_done told out out' x t is
 
 -- ---- the other statuses
@@ -121,19 +121,19 @@ pub sites_no_warnings : (map : Map) (input output : List ℕ) (names : Option (L
 sites_no_warnings map input output names before after out out' Done (done o file may e same) is = not_warnings is
 sites_no_warnings map input output names before after out out' x (stopped s h t) is = concluded_no_warnings s out out' x t is
 
-gets_no_usage : (s : CommandStop) (map : Map) (bytes : List ℕ) → GetNoSites map bytes s → status_of s ≢ Usage
-gets_no_usage s map bytes (malformed fault) e = cc
-gets_no_usage s map bytes (unlinked o is some why worded) e = cc
-gets_no_usage s map bytes (unflowed o is some linked why) e = cc
-gets_no_usage s map bytes (has_sites o is order at) e = cc
-gets_no_usage s map bytes (too_many_sections o is order new many) e = cc
-gets_no_usage s map bytes (too_many_symbols o is order new few many count) e = cc
-gets_no_usage s map bytes no_memory e = cc
+gets_no_usage : (s : CommandStop) (map : Map) (bytes : List ℕ) (lists : NameLists) → GetNoSites map bytes lists s → status_of s ≢ Usage
+gets_no_usage s map bytes lists (malformed fault) e = cc
+gets_no_usage s map bytes lists (unlinked o is some why worded) e = cc
+gets_no_usage s map bytes lists (unflowed o is some linked why) e = cc
+gets_no_usage s map bytes lists (has_sites o is order at) e = cc
+gets_no_usage s map bytes lists (too_many_sections o is order new many) e = cc
+gets_no_usage s map bytes lists (too_many_symbols o is order new few many count) e = cc
+gets_no_usage s map bytes lists no_memory e = cc
 
 stop_no_usage : (s : CommandStop) (map : Map) (input output : List ℕ) (names : Option (List ℕ)) (before after : Outside) → StopsSites map input output names before after s → status_of s ≢ Usage
 stop_no_usage s map input output names before after (unread h kept) e = read_no_usage MAX_FILE_BYTES s input before after h e
 stop_no_usage s map input output names before after (without_names read may h kept) e = names_no_usage s names before after h e
-stop_no_usage s map input output names before after (refused read was h kept) e = gets_no_usage s map read h e
+stop_no_usage s map input output names before after (refused read lists was h kept) e = gets_no_usage s map read lists h e
 stop_no_usage s map input output names before after (unwritten o file may h others) e = write_no_usage s output before after h e
 
 not_usage : Done ≢ Usage
@@ -149,19 +149,19 @@ sites_refused one map input output names held before after out out' x s ends c w
 
 -- ---- faults
 
-gets_no_fault : (s : CommandStop) (map : Map) (bytes : List ℕ) → GetNoSites map bytes s → status_of s ≢ FileFault
-gets_no_fault s map bytes (malformed fault) e = cc
-gets_no_fault s map bytes (unlinked o is some why worded) e = cc
-gets_no_fault s map bytes (unflowed o is some linked why) e = cc
-gets_no_fault s map bytes (has_sites o is order at) e = cc
-gets_no_fault s map bytes (too_many_sections o is order new many) e = cc
-gets_no_fault s map bytes (too_many_symbols o is order new few many count) e = cc
-gets_no_fault s map bytes no_memory e = cc
+gets_no_fault : (s : CommandStop) (map : Map) (bytes : List ℕ) (lists : NameLists) → GetNoSites map bytes lists s → status_of s ≢ FileFault
+gets_no_fault s map bytes lists (malformed fault) e = cc
+gets_no_fault s map bytes lists (unlinked o is some why worded) e = cc
+gets_no_fault s map bytes lists (unflowed o is some linked why) e = cc
+gets_no_fault s map bytes lists (has_sites o is order at) e = cc
+gets_no_fault s map bytes lists (too_many_sections o is order new many) e = cc
+gets_no_fault s map bytes lists (too_many_symbols o is order new few many count) e = cc
+gets_no_fault s map bytes lists no_memory e = cc
 
 stop_fault : (s : CommandStop) (map : Map) (input output : List ℕ) (names : Option (List ℕ)) (before after : Outside) → StopsSites map input output names before after s → status_of s ≡ FileFault → Rose before.faults after.faults
 stop_fault s map input output names before after (unread h kept) e = read_fault MAX_FILE_BYTES s input before after h e
 stop_fault s map input output names before after (without_names read may h kept) e = names_fault s names before after h e
-stop_fault s map input output names before after (refused read was h kept) e = absurd (gets_no_fault s map read h e)
+stop_fault s map input output names before after (refused read lists was h kept) e = absurd (gets_no_fault s map read lists h e)
 stop_fault s map input output names before after (unwritten o file may h others) e = write_fault s output before after h e
 
 not_file_fault : Done ≢ FileFault

@@ -61,32 +61,32 @@ KeepsEntryRules o lists options = KeepsRules (program_of o lists) (facts_of o) o
 
 -- ---- what stops the command
 
--- Why bytes aren't checked, in this order: they are no object, and this is their first fault; or an object whose code isn't read, or
+-- Why bytes aren't checked under the lists of names, in this order: they are no object, and this is their first fault; or an object whose code isn't read, or
 -- doesn't fit what the object says of it; or memory ran out.
-pub data IsUncheckable (map : Map) (bytes : List ℕ) : CommandStop → Type 0 where
-  malformed : {fault : ElfFault} → FirstFault bytes fault → IsUncheckable map bytes (Refused (Malformed fault))
+pub data IsUncheckable (map : Map) (bytes : List ℕ) (lists : NameLists) : CommandStop → Type 0 where
+  malformed : {fault : ElfFault} → FirstFault bytes fault → IsUncheckable map bytes lists (Refused (Malformed fault))
   unlinked :
       {told : LinkFaultText} (o : Elf)
       → IsObject bytes o
       → told.fault ≢ link.NoMemory
-      → IsLinkFault (coded_by map o) told.fault
+      → IsLinkFault (coded_by map o) lists told.fault
       → IsWorded o told
-      → IsUncheckable map bytes (Refused (Unlinked told))
+      → IsUncheckable map bytes lists (Refused (Unlinked told))
   unflowed :
       {told : FlowFaultText} (o : Elf)
       → IsObject bytes o
       → told.fault ≢ flow.NoMemory
-      → IsLinked (coded_by map o)
+      → IsLinked (coded_by map o) lists
       → IsFirstFlowFault (coded_by map o) told.fault
-      → IsUncheckable map bytes (Refused (Unflowed told))
-  no_memory : IsUncheckable map bytes NoMemory
+      → IsUncheckable map bytes lists (Refused (Unflowed told))
+  no_memory : IsUncheckable map bytes lists NoMemory
 
 -- IN may read as the bytes of this object, which is in order, under these lists of names.
 pub record MayBeChecked (map : Map) (content : Option Content) (input : List ℕ) (names : Option (List ℕ)) (o : Elf) (lists : NameLists) : Type 0 where
   pub read : List ℕ
   pub is_read : IsRead content input names read lists
   pub is : IsObject read o
-  pub in_order : IsInOrder (coded_by map o)
+  pub in_order : IsInOrder (coded_by map o) lists
 
 -- How `entry` stops: IN or the names file isn't read, a line of the names file isn't in order, the bytes of IN aren't checked, or memory
 -- runs out.
@@ -100,7 +100,7 @@ pub data StopsEntry (map : Map) (input : List ℕ) (names : Option (List ℕ)) (
   refused :
       {stop : CommandStop} (read : List ℕ) (lists : NameLists)
       → IsRead before.content input names read lists
-      → IsUncheckable map read stop
+      → IsUncheckable map read lists stop
       → StopsEntry map input names before after stop
 
 -- ---- how it ends

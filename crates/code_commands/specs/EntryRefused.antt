@@ -9,4 +9,4 @@ use Rattle.code_commands.specs.Entry.{IsUncheckable}
 
 -- `entry IN`: IN is read; then the names file, where one is given, and its lines; then the bytes of IN are parsed, and their code is read.
 abbrev pub RefusesEntry : Map → List ℕ → Option (List ℕ) → Content → CommandStop → Type 0
-RefusesEntry map input names held = RefusesInput (λ read lists stop. IsUncheckable map read stop) input names held
+RefusesEntry map input names held = RefusesInput (IsUncheckable map) input names held

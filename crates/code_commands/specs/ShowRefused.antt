@@ -24,7 +24,7 @@ pub data RefusesShow (map : Map) (input : List ℕ) (names function : Option (Li
       → reading held input MAX_FILE_BYTES ≡ Ok read
       → HasNames (Some held) names lists
       → IsObject read o
-      → IsInOrder (coded_by map o)
+      → IsInOrder (coded_by map o) lists
       → function ≡ Some name
       → HasNoFunction o (program_of (coded_by map o) lists) name
       → IsNoFunction name stop

@@ -23,7 +23,8 @@ use Rattle.site_lists.specs.Needed.{needed_symbols}
 use Rattle.site_lists.specs.SiteOutput.{site_section, site_sections}
 use Rattle.site_lists.specs.Tables.{with_sites_object, with_symbols}
 use Rattle.command_base.specs.Code.{IsWorded}
-use Rattle.command_base.specs.Names.{HasNames, StopsAtNames}
+use Rattle.command_base.specs.Inputs.{IsRead}
+use Rattle.command_base.specs.Names.{StopsAtNames}
 use Rattle.command_base.specs.Outside.{Outside, Output}
 use Rattle.command_base.specs.Printing.{Concludes}
 use Rattle.command_base.specs.Reading.{MayRead, StopsAtRead}
@@ -66,57 +67,53 @@ OutListsSites map input output None after = ⊤
 
 -- ---- what stops the command
 
--- Why bytes get no site lists, in this order: they are no object, and this is their first fault; or an object whose
--- code isn't read, or doesn't fit what the object says of it; which has a site list already, of which this is the
+-- Why bytes get no site lists under the lists of names, in this order: they are no object, and this is their first fault; or an
+-- object whose code isn't read, or doesn't fit what the object says of it; which has a site list already, of which this is the
 -- first section; or which would have too many sections, or too many symbols, and this is their number; or memory ran
 -- out.
-pub data GetNoSites (map : Map) (bytes : List ℕ) : CommandStop → Type 0 where
-  malformed : {fault : ElfFault} → FirstFault bytes fault → GetNoSites map bytes (Refused (Malformed fault))
+pub data GetNoSites (map : Map) (bytes : List ℕ) (lists : NameLists) : CommandStop → Type 0 where
+  malformed : {fault : ElfFault} → FirstFault bytes fault → GetNoSites map bytes lists (Refused (Malformed fault))
   unlinked :
       {told : LinkFaultText} (o : Elf)
       → IsObject bytes o
       → told.fault ≢ link.NoMemory
-      → IsLinkFault (coded_by map o) told.fault
+      → IsLinkFault (coded_by map o) lists told.fault
       → IsWorded o told
-      → GetNoSites map bytes (Refused (Unlinked told))
+      → GetNoSites map bytes lists (Refused (Unlinked told))
   unflowed :
       {told : FlowFaultText} (o : Elf)
       → IsObject bytes o
       → told.fault ≢ flow.NoMemory
-      → IsLinked (coded_by map o)
+      → IsLinked (coded_by map o) lists
       → IsFirstFlowFault (coded_by map o) told.fault
-      → GetNoSites map bytes (Refused (Unflowed told))
-  has_sites : {sec : ℕ} (o : Elf) → IsObject bytes o → IsInOrder (coded_by map o) → site_section o ≡ Some sec → GetNoSites map bytes (Refused (HasSites sec))
+      → GetNoSites map bytes lists (Refused (Unflowed told))
+  has_sites : {sec : ℕ} (o : Elf) → IsObject bytes o → IsInOrder (coded_by map o) lists → site_section o ≡ Some sec → GetNoSites map bytes lists (Refused (HasSites sec))
   too_many_sections :
       (o : Elf)
       → IsObject bytes o
-      → IsInOrder (coded_by map o)
+      → IsInOrder (coded_by map o) lists
       → site_section o ≡ None
       → most_sections < length o.sections
-      → GetNoSites map bytes (Refused (TooMany Sections (length o.sections)))
+      → GetNoSites map bytes lists (Refused (TooMany Sections (length o.sections)))
   too_many_symbols :
       {count : ℕ} (o : Elf)
       → IsObject bytes o
-      → IsInOrder (coded_by map o)
+      → IsInOrder (coded_by map o) lists
       → site_section o ≡ None
       → length o.sections ≤ most_sections
       → MAX_SYMBOLS < symbols_needed (coded_by map o)
       → count ≡ symbols_needed (coded_by map o)
-      → GetNoSites map bytes (Refused (TooMany Symbols count))
-  no_memory : GetNoSites map bytes NoMemory
+      → GetNoSites map bytes lists (Refused (TooMany Symbols count))
+  no_memory : GetNoSites map bytes lists NoMemory
 
--- The file IN may read as these bytes, and the names file, where one is given, as one in order.
-pub record IsRead (content : Option Content) (input : List ℕ) (names : Option (List ℕ)) (read : List ℕ) : Type 0 where
-  pub may : MayRead MAX_FILE_BYTES content input (Ok read)
-  pub lists : NameLists
-  pub named : HasNames content names lists
-
--- IN may read as the bytes of this object, which gets site lists; and these bytes are it with them.
+-- IN may read as the bytes of this object, which gets site lists under the lists of names that are read; and these bytes are it with
+-- them.
 pub record MayGetSites (map : Map) (content : Option Content) (input : List ℕ) (names : Option (List ℕ)) (o : Elf) (written : List ℕ) : Type 0 where
   pub read : List ℕ
-  pub is_read : IsRead content input names read
+  pub under : NameLists
+  pub is_read : IsRead content input names read under
   pub is : IsObject read o
-  pub gets : GetsSites (coded_by map o)
+  pub gets : GetsSites (coded_by map o) under
   pub lists : ListsSites (coded_by map o) written
 
 -- How `sites` stops, and what stands then. Where IN or the names file isn't read, a line of the names file isn't in
@@ -131,9 +128,9 @@ pub data StopsSites (map : Map) (input output : List ℕ) (names : Option (List 
       → after.content ≡ before.content
       → StopsSites map input output names before after stop
   refused :
-      {stop : CommandStop} (read : List ℕ)
-      → IsRead before.content input names read
-      → GetNoSites map read stop
+      {stop : CommandStop} (read : List ℕ) (lists : NameLists)
+      → IsRead before.content input names read lists
+      → GetNoSites map read lists stop
       → after.content ≡ before.content
       → StopsSites map input output names before after stop
   unwritten :

@@ -1,5 +1,6 @@
 -- Which objects get site lists.
 use Rattle.std.specs.Prelude.{◌≡◌, ℕ, ◌-◌, ◌≤◌, length, None}
+use Rattle.ot_base.specs.NameLists.{NameLists}
 use Rattle.elf_objects.specs.declared.TheConstants.{MAX_SECTIONS, MAX_SYMBOLS}
 use Rattle.flow_defs.specs.Coded.{Coded}
 use Rattle.command_base.specs.Code.{IsInOrder}
@@ -15,9 +16,9 @@ most_sections = MAX_SECTIONS - 6
 abbrev pub symbols_needed : Coded → ℕ
 symbols_needed o = output.symbols_needed o.elf (sites_of o)
 
--- The object gets site lists: it is in order, has none yet, and room for them and for the section symbols that they need.
-pub record GetsSites (o : Coded) : Type 0 where
-  pub in_order : IsInOrder o
+-- The object gets site lists: it is in order under the lists of names, has none yet, and room for them and for the section symbols that they need.
+pub record GetsSites (o : Coded) (lists : NameLists) : Type 0 where
+  pub in_order : IsInOrder o lists
   pub new : site_section o.elf ≡ None
   pub few : length o.elf.sections ≤ most_sections
   pub few_symbols : symbols_needed o ≤ MAX_SYMBOLS

@@ -10,4 +10,4 @@ use Rattle.code_commands.specs.Sites.{GetNoSites}
 -- `sites IN OUT`: IN is read; then the names file, where one is given, and its lines; then the bytes of IN are
 -- parsed, their code is read, and the lists of its sites are added.
 abbrev pub RefusesSites : Map → List ℕ → Option (List ℕ) → Content → CommandStop → Type 0
-RefusesSites map input names held = RefusesInput (λ read lists stop. GetNoSites map read stop) input names held
+RefusesSites map input names held = RefusesInput (GetNoSites map) input names held

@@ -87,13 +87,13 @@ pub fn entry<F: Files, S: Sink>(
     ensures warns { (read : List ℕ) (object : Elf) (lists : NameLists) (held : Content)
         → F.content files.old ≡ Some held → reading held asked.entry.input.now MAX_FILE_BYTES ≡ Ok read
         → HasNames (Some held) (option_map (λ file. file.now) asked.entry.names) lists
-        → IsObject read object → IsInOrder (coded_by asked.entry.map object)
+        → IsObject read object → IsInOrder (coded_by asked.entry.map object) lists
         → BreaksEntryRule (coded_by asked.entry.map object) lists asked.entry.options
         → IsWarnedOrFails result }
     ensures accepts { (read : List ℕ) (object : Elf) (lists : NameLists) (held : Content)
         → F.content files.old ≡ Some held → reading held asked.entry.input.now MAX_FILE_BYTES ≡ Ok read
         → HasNames (Some held) (option_map (λ file. file.now) asked.entry.names) lists
-        → IsObject read object → IsInOrder (coded_by asked.entry.map object)
+        → IsObject read object → IsInOrder (coded_by asked.entry.map object) lists
         → IsUnbroken (coded_by asked.entry.map object) lists asked.entry.options
         → IsAnswered result }
 

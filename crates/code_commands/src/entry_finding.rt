@@ -20,18 +20,19 @@ use program_graph::Graph;
 use std::alloc::Global;
 use x86_map::Map;
 
-/// Reads the code of an object by an opcode map, or tells why a command stops that can't.
+/// Reads the code of an object by an opcode map, under lists of function names, or tells why a command stops that can't.
 pub(crate) fn link<'o, 'a>(
     alloc: Global,
     map: Map,
     object: &'o Object<'a>,
+    lists: &Lists,
 ) -> Result<Linked<'o, 'a>, CommandStop<'a>>
     requires { length object.now.bytes ≤ MAX_FILE_BYTES }
     ensures ok { IfOk result (λ linked. linked ≡ coded_by map object.now) }
-    ensures right { OnOk result (IsLinked (coded_by map object.now)) }
-    ensures stopped { (bytes : List ℕ) → IsObject bytes object.now → IfErr result (IsUncheckable map bytes) }
+    ensures right { OnOk result (IsLinked (coded_by map object.now) lists.now) }
+    ensures stopped { (bytes : List ℕ) → IsObject bytes object.now → IfErr result (IsUncheckable map bytes lists.now) }
 {
-    match Linked::link(alloc, map, object) {
+    match Linked::link(alloc, map, object, lists) {
         Ok(linked) => Ok(linked),
         Err(fault) => Err(link_stop(object, fault)),
     }
@@ -43,10 +44,10 @@ pub(crate) fn graph_of<'a>(
     linked: &Linked<'_, '_>,
     lists: &Lists,
 ) -> Result<Graph, CommandStop<'a>>
-    requires { IsLinked linked.now }
+    requires { IsLinked linked.now lists.now }
     ensures tells { IfOk result (λ graph. Tells (program_of linked.now lists.now) graph.parts) }
-    ensures right { OnOk result (IsInOrder linked.now) }
-    ensures stopped { (bytes : List ℕ) → IsObject bytes linked.now.elf → IfErr result (IsUncheckable linked.now.map bytes) }
+    ensures right { OnOk result (IsInOrder linked.now lists.now) }
+    ensures stopped { (bytes : List ℕ) → IsObject bytes linked.now.elf → IfErr result (IsUncheckable linked.now.map bytes lists.now) }
 {
     match flow(alloc, linked, lists) {
         Ok(graph) => Ok(graph),
@@ -62,11 +63,11 @@ fn warnings_of_linked<'a>(
     lists: &Lists,
     options: EntryOptions,
 ) -> Result<Vec<Warning>, CommandStop<'a>>
-    requires { IsLinked linked.now }
+    requires { IsLinked linked.now lists.now }
     ensures are { IfOk result (λ warnings. AreEntryWarnings linked.now lists.now options warnings.items) }
     ensures keeps { IfOk result (λ warnings. warnings.items ≡ [] → KeepsEntryRules linked.now lists.now options) }
-    ensures right { OnOk result (IsInOrder linked.now) }
-    ensures stopped { (bytes : List ℕ) → IsObject bytes linked.now.elf → IfErr result (IsUncheckable linked.now.map bytes) }
+    ensures right { OnOk result (IsInOrder linked.now lists.now) }
+    ensures stopped { (bytes : List ℕ) → IsObject bytes linked.now.elf → IfErr result (IsUncheckable linked.now.map bytes lists.now) }
 {
     let graph = graph_of(alloc, linked, lists)?;
     match check(alloc, linked, &graph, options) {
@@ -87,9 +88,9 @@ pub(crate) fn warnings_of<'a>(
     requires { length object.now.bytes ≤ MAX_FILE_BYTES }
     ensures are { IfOk result (λ warnings. AreEntryWarnings (coded_by map object.now) lists.now options warnings.items) }
     ensures keeps { IfOk result (λ warnings. warnings.items ≡ [] → KeepsEntryRules (coded_by map object.now) lists.now options) }
-    ensures right { OnOk result (IsInOrder (coded_by map object.now)) }
-    ensures stopped { (bytes : List ℕ) → IsObject bytes object.now → IfErr result (IsUncheckable map bytes) }
+    ensures right { OnOk result (IsInOrder (coded_by map object.now) lists.now) }
+    ensures stopped { (bytes : List ℕ) → IsObject bytes object.now → IfErr result (IsUncheckable map bytes lists.now) }
 {
-    let linked = link(alloc, map, object)?;
+    let linked = link(alloc, map, object, lists)?;
     warnings_of_linked(alloc, &linked, lists, options)
 }

@@ -54,10 +54,10 @@ fn code_of_linked<'a>(
     linked: &Linked<'_, '_>,
     lists: &Lists,
 ) -> Result<ShownCode, CommandStop<'a>>
-    requires { IsLinked linked.now }
+    requires { IsLinked linked.now lists.now }
     ensures shown { IfOk result (IsShownCode (program_of linked.now lists.now)) }
-    ensures right { OnOk result (IsInOrder linked.now) }
-    ensures stopped { (bytes : List ℕ) → IsObject bytes linked.now.elf → IfErr result (IsUncheckable linked.now.map bytes) }
+    ensures right { OnOk result (IsInOrder linked.now lists.now) }
+    ensures stopped { (bytes : List ℕ) → IsObject bytes linked.now.elf → IfErr result (IsUncheckable linked.now.map bytes lists.now) }
 {
     program_is_one();
     program_is_laid_out();
@@ -80,10 +80,10 @@ pub(crate) fn code_of<'a>(
 ) -> Result<ShownCode, CommandStop<'a>>
     requires { length object.now.bytes ≤ MAX_FILE_BYTES }
     ensures shown { IfOk result (IsShownCode (program_of (coded_by map object.now) lists.now)) }
-    ensures right { OnOk result (IsInOrder (coded_by map object.now)) }
-    ensures stopped { (bytes : List ℕ) → IsObject bytes object.now → IfErr result (IsUncheckable map bytes) }
+    ensures right { OnOk result (IsInOrder (coded_by map object.now) lists.now) }
+    ensures stopped { (bytes : List ℕ) → IsObject bytes object.now → IfErr result (IsUncheckable map bytes lists.now) }
 {
-    let linked = link(alloc, map, object)?;
+    let linked = link(alloc, map, object, lists)?;
     code_of_linked(alloc, &linked, lists)
 }
 

@@ -79,7 +79,7 @@ pub fn show<F: Files, S: Sink>(
     ensures accepts { (read : List ℕ) (object : Elf) (lists : NameLists) (held : Content)
         → F.content files.old ≡ Some held → reading held asked.entry.input.now MAX_FILE_BYTES ≡ Ok read
         → HasNames (Some held) (option_map (λ file. file.now) asked.entry.names) lists
-        → IsObject read object → IsInOrder (coded_by asked.entry.map object)
+        → IsObject read object → IsInOrder (coded_by asked.entry.map object) lists
         → HasCode object (program_of (coded_by asked.entry.map object) lists) (option_map (λ name. name.now) asked.entry.function)
         → IsAnswered result }
 

@@ -13,27 +13,30 @@ ghost use Rattle.command_base.specs.declared.stop.CommandStop.{CommandStop as St
 ghost use Rattle.code_commands.specs.SitesOrder.{GetsSites};
 ghost use Rattle.command_base.specs.Refusing.{IsRefusedOrFails, Tells};
 ghost use Rattle.code_commands.specs.SitesRefused.{RefusesSites};
-ghost use Rattle.code_commands.specs.Sites.{EndsSites, IsRead, OutListsSites, SitesMayChange};
+ghost use Rattle.code_commands.specs.Sites.{EndsSites, OutListsSites, SitesMayChange};
+ghost use Rattle.command_base.specs.Inputs.{IsRead};
 
 use crate::sites_words::SitesAsked;
 use crate::sites_writing::with_its_sites;
 use command_base::{Status, conclude, parse_stop, read_file, read_names, write_file};
 use elf_objects::{MAX_FILE_BYTES, Object};
+use ot_base::Lists;
 use ot_files::{Files, Sink};
 use std::alloc::Global;
 use x86_decode::one_outcome;
 
-/// Writes the input, of which these bytes were read, with the lists of its sites to the output file, or tells why it
-/// gets none.
+/// Writes the input, of which these bytes were read, with the lists of its sites to the output file, under lists of function names,
+/// or tells why it gets none.
 fn add_sites<F: Files, S: Sink>(
     alloc: Global,
     asked: SitesAsked<'_>,
     bytes: &[u8],
+    lists: &Lists,
     files: &mut F,
     out: &mut S,
 ) -> Status
     requires few { length bytes.now ≤ MAX_FILE_BYTES }
-    requires read { IsRead (F.content files.old) asked.input.now (option_map (λ file. file.now) asked.names) bytes.now }
+    requires read { IsRead (F.content files.old) asked.input.now (option_map (λ file. file.now) asked.names) bytes.now lists.now }
     ensures ends { EndsSites asked.entry.map asked.entry.input.now asked.entry.output.now (option_map (λ file. file.now) asked.entry.names)
         (record { content = F.content files.old; faults = F.faults files.old })
         (record { content = F.content files.new; faults = F.faults files.new })
@@ -47,7 +50,7 @@ fn add_sites<F: Files, S: Sink>(
         Ok(object) => object,
         Err(fault) => return conclude(alloc, parse_stop(fault), out),
     };
-    let file = match with_its_sites(alloc, asked.map, &object) {
+    let file = match with_its_sites(alloc, asked.map, &object, lists) {
         Ok(file) => file,
         Err(stop) => return conclude(alloc, stop, out),
     };
@@ -79,14 +82,14 @@ fn read_and_add<F: Files, S: Sink>(
         Err(stop) => return conclude(alloc, stop, out),
     };
     match read_names(alloc, asked.names, files) {
-        Ok(_) => add_sites(alloc, asked, bytes.as_slice(), files, out),
+        Ok(lists) => add_sites(alloc, asked, bytes.as_slice(), &lists, files, out),
         Err(stop) => conclude(alloc, stop, out),
     }
 }
 
 /// Reads the object IN, and writes it to OUT with its three site lists, which hold the sites of its code, and with
-/// the section symbols that these need; or tells why there are none. A names file, where one is given, is read and
-/// has to be in order, and its names change nothing. Gives the status that the command ends with.
+/// the section symbols that these need; or tells why there are none. Of the names of a names file, where one is given, those of
+/// loose code count alone: there hints may be written that are refused elsewhere. Gives the status that the command ends with.
 ///
 /// It reads the code, and doesn't follow its control flow: no rule of stack validation is tested.
 pub fn sites<F: Files, S: Sink>(
@@ -110,7 +113,7 @@ pub fn sites<F: Files, S: Sink>(
     ensures accepts { (read : List ℕ) (object : Elf) (lists : NameLists) (held : Content)
         → F.content files.old ≡ Some held → reading held asked.entry.input.now MAX_FILE_BYTES ≡ Ok read
         → HasNames (Some held) (option_map (λ file. file.now) asked.entry.names) lists
-        → IsObject read object → GetsSites (coded_by asked.entry.map object)
+        → IsObject read object → GetsSites (coded_by asked.entry.map object) lists
         → IsAnswered result }
     // Where the files tell their content: it is refused only where a step finds a refusal, the first that fails, and
     // exactly its line was printed. And where one does, it is refused, unless a fault or want of memory is answered.

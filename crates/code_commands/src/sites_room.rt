@@ -1,6 +1,7 @@
 //! Whether an object has room for site lists.
 
 ghost use Rattle.std.specs.Prelude.{◌≡◌, ◌≤◌, ℕ, List, All, IfErr, None, OnOk, length};
+ghost use Rattle.ot_base.specs.NameLists.{NameLists};
 ghost use Rattle.elf_objects.specs.Object.{IsObject};
 ghost use Rattle.flow_defs.specs.Coded.{coded_by};
 ghost use Rattle.site_lists.specs.SiteOutput.{IsOther, site_section};
@@ -19,7 +20,7 @@ pub(crate) fn check_room<'a>(object: &Object<'_>) -> Result<(), CommandStop<'a>>
     ensures new { OnOk result (site_section object.now ≡ None) }
     ensures others { OnOk result (All IsOther object.now.sections) }
     ensures few { OnOk result (length object.now.sections ≤ most_sections) }
-    ensures stopped { (map : Map) (bytes : List ℕ) → IsObject bytes object.now → IsInOrder (coded_by map object.now) → IfErr result (GetNoSites map bytes) }
+    ensures stopped { (map : Map) (bytes : List ℕ) (lists : NameLists) → IsObject bytes object.now → IsInOrder (coded_by map object.now) lists → IfErr result (GetNoSites map bytes lists) }
 {
     if let Some(sec) = first_site_section(object) {
         return Err(CommandStop::Refused(Refusal::HasSites { sec }));

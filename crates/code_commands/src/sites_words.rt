@@ -9,6 +9,7 @@ pub struct SitesAsked<'a> {
     pub output: &'a str,
     /// The opcode map by which its code is read.
     pub map: Map,
-    /// The file of function names, where one is given. It is read, and its names change nothing.
+    /// The file of function names, where one is given. Of its names those of loose code count alone: there hints may be written
+    /// that are refused elsewhere.
     pub names: Option<&'a str>,
 }

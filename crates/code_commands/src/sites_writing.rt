@@ -12,24 +12,26 @@ use crate::sites_room::check_room;
 use command_base::{CommandStop, Refusal};
 use elf_objects::{Counted, Object};
 use orc_output::TableFault;
+use ot_base::Lists;
 use site_lists::{lists_are_determined, with_sites};
 use std::alloc::Global;
 use x86_map::Map;
 
-/// The bytes of an object with the lists of its sites and the section symbols that these need, or why a command stops
-/// whose object gets none.
+/// The bytes of an object with the lists of its sites and the section symbols that these need, whose code is read under lists of
+/// function names; or why a command stops whose object gets none.
 pub(crate) fn with_its_sites<'a>(
     alloc: Global,
     map: Map,
     object: &Object<'a>,
+    names: &Lists,
 ) -> Result<Vec<u8>, CommandStop<'a>>
     requires short { length object.now.bytes ≤ MAX_FILE_BYTES }
-    ensures gets { OnOk result (GetsSites (coded_by map object.now)) }
+    ensures gets { OnOk result (GetsSites (coded_by map object.now) names.now) }
     ensures lists { IfOk result (λ file. ListsSites (coded_by map object.now) file.items) }
-    ensures stopped { (bytes : List ℕ) → IsObject bytes object.now → IfErr result (GetNoSites map bytes) }
+    ensures stopped { (bytes : List ℕ) → IsObject bytes object.now → IfErr result (GetNoSites map bytes names.now) }
 {
     lists_are_determined();
-    let lists = sites_of(alloc, map, object)?;
+    let lists = sites_of(alloc, map, object, names)?;
     check_room(object)?;
     match with_sites(alloc, object, &lists) {
         Ok(file) => Ok(file),

@@ -1,5 +1,6 @@
 -- Whose code is in order, and why a command stops whose input's code isn't read, or doesn't fit what the object says of it.
 use Rattle.std.specs.Prelude.{◌≡◌, ◌≢◌, ℕ, []}
+use Rattle.ot_base.specs.NameLists.{NameLists}
 use Rattle.elf_objects.specs.Contents.{section_at}
 use Rattle.elf_objects.specs.Elf.{Elf}
 use Rattle.flow_defs.specs.Coded.{Coded}
@@ -15,10 +16,10 @@ use Rattle.command_base.specs.declared.refusal.Refusal.TheVariants.{Unlinked, Un
 use Rattle.command_base.specs.declared.stop.CommandStop.{CommandStop}
 use Rattle.command_base.specs.declared.stop.CommandStop.TheVariants.{Refused, NoMemory}
 
--- The object's code is read, and what it says of it fits the code: texts, special sections, functions, alternatives, starts of
+-- The object's code is read, and what it says of it fits the code, under the lists of names: texts, special sections, functions, alternatives, starts of
 -- functions, lists of places, static branches, calls within functions and unchecked functions are in order.
-pub record IsInOrder (o : Coded) : Type 0 where
-  pub linked : IsLinked o
+pub record IsInOrder (o : Coded) (lists : NameLists) : Type 0 where
+  pub linked : IsLinked o lists
   pub flow : flow_faults o ≡ []
 
 -- where a text section isn't code, it is told by its name and its body

@@ -1,6 +1,7 @@
 //! Why a command stops whose input's code isn't read, or doesn't fit what the object says of it.
 
 ghost use Rattle.std.specs.Prelude.{◌≡◌};
+ghost use Rattle.ot_base.specs.NameLists.{NameLists};
 ghost use Rattle.flow_defs.specs.Coded.{coded_by};
 ghost use Rattle.object_points.specs.Linked.{IsLinkFault};
 ghost use Rattle.x86_map.specs.declared.map.Map.{Map};
@@ -15,7 +16,7 @@ use object_points::{LinkFault, LinkFaultText};
 
 /// Why an object's code isn't read, in words.
 fn link_text<'a>(object: &Object<'a>, fault: LinkFault) -> LinkFaultText<'a>
-    requires { (map : Map) × IsLinkFault (coded_by map object.now) fault }
+    requires { (map : Map) × (lists : NameLists) × IsLinkFault (coded_by map object.now) lists fault }
     ensures fault { result.fault ≡ fault }
     ensures worded { IsWorded object.now result }
 {
@@ -35,7 +36,7 @@ fn link_text<'a>(object: &Object<'a>, fault: LinkFault) -> LinkFaultText<'a>
 
 /// Why a command stops whose object's code isn't read.
 pub fn link_stop<'a>(object: &Object<'a>, fault: LinkFault) -> CommandStop<'a>
-    requires { (map : Map) × IsLinkFault (coded_by map object.now) fault }
+    requires { (map : Map) × (lists : NameLists) × IsLinkFault (coded_by map object.now) lists fault }
     ensures { IsLinkStop object.now fault result }
 {
     match fault {

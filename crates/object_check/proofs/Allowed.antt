@@ -4,13 +4,14 @@ use Rattle.std.specs.FinSet as set
 use Rattle.std.proofs.lemmas.Bool.{cases_lt}
 use Rattle.std.proofs.lemmas.List.{get_or_default, get_or_past}
 use Rattle.ot_base.specs.NameLists.{NameLists}
+use Rattle.ot_base.specs.declared.options.Options.{Options}
 use Rattle.elf_objects.specs.Elf.{Elf, SymbolEntry}
 use Rattle.flow_defs.specs.Coded.{Coded}
 use Rattle.elf_objects.specs.Contents.{no_symbol}
 use Rattle.program_check.specs.Allows.{Allows}
 use Rattle.program_check.specs.declared.allowance_table.AllowanceTable.{AllowanceTable}
 use Rattle.flow_defs.specs.Code.{point_at, points_of_object}
-use Rattle.object_check.specs.Allowances.{allowances_of, is_safe_branch, is_safe_name, lacks_smap}
+use Rattle.object_check.specs.Allowances.{allowances_of, is_before_user_space, is_safe_branch, is_safe_name, lacks_smap}
 use Rattle.object_check.specs.Flags.{AreFlags}
 
 -- a number that is no symbol's has the empty name
@@ -24,16 +25,19 @@ names_told o lists flags empty are is k = elim (cases_lt k (length o.symbols)) [
   | inr past ↦ get_or_past flags k empty (omega (arith, are.long, past)) ∙ is ∙ none_named o lists k past
 ]
 
-pub allows : (o : Coded) (lists : NameLists) (table : AllowanceTable)
+pub allows : (o : Coded) (lists : NameLists) (options : Options) (table : AllowanceTable)
     → AreFlags (λ q. is_safe_branch o (point_at o q)) (length (points_of_object o)) table.safe_branches.items
+    → AreFlags (λ q. is_before_user_space o options (point_at o q)) (length (points_of_object o)) table.before_user_space.items
     → AreFlags (λ q. lacks_smap o (point_at o q)) (length (points_of_object o)) table.lacking_smap.items
     → AreFlags (is_safe_name o.elf lists) (length o.elf.symbols) table.safe_names.items
     → table.empty_is_safe ≡ set.contains lists.access_safe []
-    → Allows (allowances_of o lists) table (length (points_of_object o))
+    → Allows (allowances_of o lists options) table (length (points_of_object o))
 unfolding allowances_of
-allows o lists table branches smap names empty = record {
+allows o lists options table branches initial smap names empty = record {
   branches_long = branches.long;
   branches = branches.each;
+  before_long = initial.long;
+  before = initial.each;
   smap_long = smap.long;
   smap = smap.each;
   names = names_told o.elf lists table.safe_names.items table.empty_is_safe names empty;

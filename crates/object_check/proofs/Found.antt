@@ -49,17 +49,17 @@ ready o lists parts one laid ascend functions is = record {
 }
 
 -- a table that is lent is the table
-pub lent_table : (o : Coded) (lists : NameLists) (table : Option AllowanceTable) (lent : Option (Bor AllowanceTable)) → option_copied lent ≡ table → IsTableOf (program_of o lists) (allowances_of o lists) table → IsTableOf (program_of o lists) (allowances_of o lists) (option_copied lent)
-lent_table o lists table lent same is = subst (IsTableOf (program_of o lists) (allowances_of o lists)) (sym same) is
+pub lent_table : (o : Coded) (lists : NameLists) (options : Options) (table : Option AllowanceTable) (lent : Option (Bor AllowanceTable)) → option_copied lent ≡ table → IsTableOf (program_of o lists) (allowances_of o lists options) table → IsTableOf (program_of o lists) (allowances_of o lists options) (option_copied lent)
+lent_table o lists options table lent same is = subst (IsTableOf (program_of o lists) (allowances_of o lists options)) (sym same) is
 
 -- what was found of the program of an object in order
 pub is_found : (o : Coded) (lists : NameLists) (options : Options) (counts : CodeCounts) (outcome : ObjectVerdict)
-    → IsInOrder o → IsCounted o counts → IsOutcomeOf (program_of o lists) (allowances_of o lists) options counts outcome → IsFound o lists options outcome
+    → IsInOrder o lists → IsCounted o counts → IsOutcomeOf (program_of o lists) (allowances_of o lists options) options counts outcome → IsFound o lists options outcome
 is_found o lists options counts (Accepted rows told) order counted found = (order, found.0, found.1, subst (IsCounted o) (sym found.2) counted)
 is_found o lists options counts (Broken warnings) order counted found = (order, found)
 
 -- is the outcome of its check, where it has room for the tables
-pub is_outcome : (o : Coded) (lists : NameLists) (options : Options) (outcome : ObjectVerdict) → IsCheckable o → IsFound o lists options outcome → IsOutcome o lists options outcome
+pub is_outcome : (o : Coded) (lists : NameLists) (options : Options) (outcome : ObjectVerdict) → IsCheckable o lists → IsFound o lists options outcome → IsOutcome o lists options outcome
 is_outcome o lists options (Accepted rows told) can found = (can, found.1, found.2, found.3)
 is_outcome o lists options (Broken warnings) can found = (can, found.1)
 
@@ -75,7 +75,7 @@ row_in o x is named = record {
 }
 
 pub can_have_rows : (o : Coded) (lists : NameLists) (options : Options) (counts : CodeCounts) (outcome : ObjectVerdict)
-    → RowsArePlaced → RowsAreFew → RowsAreNamed → RowsAscend → RowsTellFrames → ObjectIsInOrder o → IsOutcomeOf (program_of o lists) (allowances_of o lists) options counts outcome
+    → RowsArePlaced → RowsAreFew → RowsAreNamed → RowsAscend → RowsTellFrames → ObjectIsInOrder o → IsOutcomeOf (program_of o lists) (allowances_of o lists options) options counts outcome
     → OnAccepted outcome (CanHaveRows o.elf)
 can_have_rows o lists options counts (Accepted rows told) are_placed are_few are_named ascend tell order found =
     let has = found.1 in
@@ -93,18 +93,18 @@ can_have_rows o lists options counts (Accepted rows told) are_placed are_few are
 can_have_rows o lists options counts (Broken warnings) are_placed are_few are_named ascend tell order found = tt
 
 -- rows that the object can have become its tables, where it has room for them
-pub can_have_tables : (o : Coded) (outcome : ObjectVerdict) → length o.elf.bytes ≤ MAX_FILE_BYTES → IsCheckable o → OnAccepted outcome (CanHaveRows o.elf) → OnAccepted outcome (CanHaveTables o.elf)
-can_have_tables o (Accepted rows told) short can have = record {
+pub can_have_tables : (o : Coded) (lists : NameLists) (outcome : ObjectVerdict) → length o.elf.bytes ≤ MAX_FILE_BYTES → IsCheckable o lists → OnAccepted outcome (CanHaveRows o.elf) → OnAccepted outcome (CanHaveTables o.elf)
+can_have_tables o lists (Accepted rows told) short can have = record {
   each = have.each;
   none = all_other o.elf can.new;
   few = omega (arith, can.few);
   short = short;
   few_rows = have.few;
 }
-can_have_tables o (Broken warnings) short can have = tt
+can_have_tables o lists (Broken warnings) short can have = tt
 
 pub rows_unwind : (o : Coded) (lists : NameLists) (options : Options) (counts : CodeCounts) (outcome : ObjectVerdict)
-    → ObjectUnwinds → ObjectIsInOrder o → IsInOrder o → IsOutcomeOf (program_of o lists) (allowances_of o lists) options counts outcome
+    → ObjectUnwinds → ObjectIsInOrder o → IsInOrder o lists → IsOutcomeOf (program_of o lists) (allowances_of o lists options) options counts outcome
     → OnAccepted outcome (RowsUnwind o lists)
 rows_unwind o lists options counts (Accepted rows told) unwinds order right found = λ bases ranges placed m run.
     let has = found.1 in
@@ -115,13 +115,13 @@ rows_unwind o lists options counts (Broken warnings) unwinds order right found =
 -- what the options promise of its runs
 pub keeps_promises : (o : Coded) (lists : NameLists) (options : Options) (counts : CodeCounts) (outcome : ObjectVerdict)
     → FrameLaw → BranchLaw → AccessLaw → ProgramIsOne → ProgramHasFunctions → ObjectIsInOrder o
-    → IsOutcomeOf (program_of o lists) (allowances_of o lists) options counts outcome
+    → IsOutcomeOf (program_of o lists) (allowances_of o lists options) options counts outcome
     → OnAccepted outcome (λ rows. KeepsPromises o lists options)
 keeps_promises o lists options counts (Accepted rows told) frames branches access one functions order found =
     let is = one o lists order.bytes order.special in
     record {
-      frames = λ asked bases placed m run. frames (program_of o lists) (allowances_of o lists) options bases is placed asked found.0.clean m run;
-      branches = λ bases placed m run. branches (program_of o lists) (allowances_of o lists) options bases is placed found.0.clean m run;
-      access = λ asked bases placed m homes run. access (program_of o lists) (allowances_of o lists) options bases is (functions o lists) placed asked found.0.clean m homes run;
+      frames = λ asked bases placed m run. frames (program_of o lists) (allowances_of o lists options) options bases is placed asked found.0.clean m run;
+      branches = λ bases placed m run. branches (program_of o lists) (allowances_of o lists options) options bases is placed found.0.clean m run;
+      access = λ asked bases placed m homes run. access (program_of o lists) (allowances_of o lists options) options bases is (functions o lists) placed asked found.0.clean m homes run;
     }
 keeps_promises o lists options counts (Broken warnings) frames branches access one functions order found = tt

@@ -7,4 +7,5 @@ pub mod RowOrder
 mod Found
 pub mod OneCount
 pub mod Allowed
+mod InitTexts
 pub mod SmapSites

@@ -1,13 +1,14 @@
--- What an object and the lists of names allow at the points of its program and at its symbols.
-use Rattle.std.specs.Prelude.{ℕ, ◌+◌, ◌*◌, ◌==◌, ◌&&◌, not, Bool}
+-- What an object, the lists of names and the options allow at the points of its program and at its symbols.
+use Rattle.std.specs.Prelude.{ℕ, ◌+◌, ◌*◌, ◌==◌, ◌&&◌, not, Bool, bytes_eq, codes}
 use Rattle.std.specs.List.{list_any}
 use Rattle.std.specs.FinSet as set
 use Rattle.ot_base.specs.NameLists.{NameLists}
+use Rattle.ot_base.specs.declared.options.Options.{Options}
 use Rattle.ot_base.specs.declared.place.Place.{Place}
 use Rattle.ot_base.specs.Places.{same_place}
 use Rattle.elf_objects.specs.Elf.{Elf}
 use Rattle.flow_defs.specs.Coded.{Coded}
-use Rattle.elf_objects.specs.Contents.{symbol_at}
+use Rattle.elf_objects.specs.Contents.{section_at, symbol_at}
 use Rattle.special_sections.specs.declared.entries.AltEntry.{AltEntry}
 use Rattle.special_sections.specs.Special.{special_of}
 use Rattle.alternatives.specs.declared.point.Point.{Point}
@@ -21,6 +22,14 @@ use Rattle.machine_defs.specs.Allowances.{Allowances}
 -- its place is listed in `.discard.retpoline_safe`
 unfoldable pub is_safe_branch : Coded → Point → Bool
 is_safe_branch o point = list_any (same_place point.place) (special_of o.elf).safe_branches
+
+-- code of a section with this name runs once, before user space does; that of a module runs when it is loaded
+abbrev pub is_init_text : Elf → ℕ → Bool
+is_init_text o sec = bytes_eq (section_at o sec).name (codes ".init.text")
+
+-- its section is named so, and the object is no part of a module
+unfoldable pub is_before_user_space : Coded → Options → Point → Bool
+is_before_user_space o options point = not options.module && is_init_text o.elf point.place.sec
 
 -- the name of a symbol is listed as that of a function that may be called with user access on
 unfoldable pub is_safe_name : Elf → NameLists → ℕ → Bool
@@ -50,9 +59,10 @@ is_smap_point o point = not (is_plain point) && is_for_smap (entry_of (alternati
 unfoldable pub lacks_smap : Coded → Point → Bool
 lacks_smap o point = is_in_smap_site o (address_of_point (alternatives_of o) point) && not (is_smap_point o point)
 
-unfoldable pub allowances_of : Coded → NameLists → Allowances
-allowances_of o lists = record {
+unfoldable pub allowances_of : Coded → NameLists → Options → Allowances
+allowances_of o lists options = record {
   safe_branch = λ q. is_safe_branch o (point_at o q);
+  before_user_space = λ q. is_before_user_space o options (point_at o q);
   safe_name = is_safe_name o.elf lists;
   lacks_smap = λ q. lacks_smap o (point_at o q);
 }

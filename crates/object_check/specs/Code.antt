@@ -34,20 +34,20 @@ pub record IsCodeOf (o : Coded) (lists : NameLists) (options : Options) (code : 
   pub short : length o.elf.bytes ≤ MAX_FILE_BYTES
   pub graph : IsGraphOf o lists code.graph.parts
   pub enough : IsEnough options code.table
-  pub allows : IsTableOf (program_of o lists) (allowances_of o lists) code.table
+  pub allows : IsTableOf (program_of o lists) (allowances_of o lists options) code.table
   pub counted : IsCounted o code.counts
 
 -- Why the object's code isn't read: the first that is wrong, in this order. Want of memory says nothing of the object.
-pub data IsCodeFault (o : Coded) : CodeFault → Type 0 where
-  unlinked : (fault : LinkFault) → fault ≢ link.NoMemory → IsLinkFault o fault → IsCodeFault o (Link fault)
-  unflowed : (fault : FlowFault) → fault ≢ flow.NoMemory → IsLinked o → IsFirstFlowFault o fault → IsCodeFault o (Flow fault)
-  no_memory : IsCodeFault o NoMemory
+pub data IsCodeFault (o : Coded) (lists : NameLists) : CodeFault → Type 0 where
+  unlinked : (fault : LinkFault) → fault ≢ link.NoMemory → IsLinkFault o lists fault → IsCodeFault o lists (Link fault)
+  unflowed : (fault : FlowFault) → fault ≢ flow.NoMemory → IsLinked o lists → IsFirstFlowFault o fault → IsCodeFault o lists (Flow fault)
+  no_memory : IsCodeFault o lists NoMemory
 
 -- The object is in order. Its program, under the lists of names, breaks no rule that is asked for, the rows are the program's, and the
 -- object has so much code; or the program breaks some, and the warnings are exactly these.
 abbrev pub IsFound : Coded → NameLists → Options → ObjectVerdict → Type 0
-IsFound o lists options (Accepted rows counts) = IsInOrder o × IsUnbroken (program_of o lists) (allowances_of o lists) options × HasRows (program_of o lists) rows.items × IsCounted o counts
-IsFound o lists options (Broken warnings) = IsInOrder o × AreWarnings (program_of o lists) (allowances_of o lists) options warnings.items
+IsFound o lists options (Accepted rows counts) = IsInOrder o lists × IsUnbroken (program_of o lists) (allowances_of o lists options) options × HasRows (program_of o lists) rows.items × IsCounted o counts
+IsFound o lists options (Broken warnings) = IsInOrder o lists × AreWarnings (program_of o lists) (allowances_of o lists options) options warnings.items
 
 -- Rows that the object can have, as ORC tables and as call frame information: each lies in a text section in which a symbol is defined,
 -- at an offset up to the section's size; they strictly ascend by their places; and there are at most so many as a file that is read

@@ -1,5 +1,6 @@
 -- Which objects are checked, and why others aren't.
 use Rattle.std.specs.Prelude.{◌≡◌, ◌≢◌, ℕ, ◌-◌, ◌<◌, ◌≤◌, ◌||◌, Bool, List, [], length, position, Option, Some, None, bytes_eq, codes}
+use Rattle.ot_base.specs.NameLists.{NameLists}
 use Rattle.elf_objects.specs.Elf.{Elf}
 use Rattle.flow_defs.specs.Coded.{Coded}
 use Rattle.elf_objects.specs.declared.TheConstants.{MAX_SECTIONS}
@@ -12,10 +13,10 @@ use Rattle.flow_defs.specs.Faults.{flow_faults, IsFirstFlowFault}
 use Rattle.object_check.specs.declared.fault.CheckFault.{CheckFault}
 use Rattle.object_check.specs.declared.fault.CheckFault.TheVariants.{Link, Flow, HasOrc, TooManySections, NoMemory}
 
--- The object's code is read, and its program can be checked: texts, special sections, functions, alternatives, starts of
+-- The object's code is read, and its program can be checked, under the lists of names: texts, special sections, functions, alternatives, starts of
 -- functions, lists of places, static branches, calls within functions and unchecked functions are in order.
-pub record IsInOrder (o : Coded) : Type 0 where
-  pub linked : IsLinked o
+pub record IsInOrder (o : Coded) (lists : NameLists) : Type 0 where
+  pub linked : IsLinked o lists
   pub flow : flow_faults o ≡ []
 
 -- the name is that of an ORC section
@@ -32,15 +33,15 @@ abbrev pub most_sections : ℕ
 most_sections = MAX_SECTIONS - 3
 
 -- The object is checked: it is in order, has no ORC sections yet, and room for them.
-pub record IsCheckable (o : Coded) : Type 0 where
-  pub in_order : IsInOrder o
+pub record IsCheckable (o : Coded) (lists : NameLists) : Type 0 where
+  pub in_order : IsInOrder o lists
   pub new : orc_section o.elf ≡ None
   pub few : length o.elf.sections ≤ most_sections
 
 -- Why the object isn't checked: the first that is wrong, in this order. Want of memory says nothing of the object.
-pub data IsCheckFault (o : Coded) : CheckFault → Type 0 where
-  unlinked : (fault : LinkFault) → fault ≢ link.NoMemory → IsLinkFault o fault → IsCheckFault o (Link fault)
-  unflowed : (fault : FlowFault) → fault ≢ flow.NoMemory → IsLinked o → IsFirstFlowFault o fault → IsCheckFault o (Flow fault)
-  has_orc : (sec : ℕ) → IsInOrder o → orc_section o.elf ≡ Some sec → IsCheckFault o (HasOrc sec)
-  crowded : IsInOrder o → orc_section o.elf ≡ None → most_sections < length o.elf.sections → IsCheckFault o (TooManySections (length o.elf.sections))
-  no_memory : IsCheckFault o NoMemory
+pub data IsCheckFault (o : Coded) (lists : NameLists) : CheckFault → Type 0 where
+  unlinked : (fault : LinkFault) → fault ≢ link.NoMemory → IsLinkFault o lists fault → IsCheckFault o lists (Link fault)
+  unflowed : (fault : FlowFault) → fault ≢ flow.NoMemory → IsLinked o lists → IsFirstFlowFault o fault → IsCheckFault o lists (Flow fault)
+  has_orc : (sec : ℕ) → IsInOrder o lists → orc_section o.elf ≡ Some sec → IsCheckFault o lists (HasOrc sec)
+  crowded : IsInOrder o lists → orc_section o.elf ≡ None → most_sections < length o.elf.sections → IsCheckFault o lists (TooManySections (length o.elf.sections))
+  no_memory : IsCheckFault o lists NoMemory

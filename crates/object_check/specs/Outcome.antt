@@ -40,8 +40,8 @@ pub record AreWarnings (p : Program) (allowed : Allowances) (options : Options) 
 -- The object is checked. Its program, under the lists of names, breaks no rule that is asked for, the rows are the
 -- program's, and the object has so much code; or the program breaks some, and the warnings are exactly these.
 abbrev pub IsOutcome : Coded → NameLists → Options → ObjectVerdict → Type 0
-IsOutcome o lists options (Accepted rows counts) = IsCheckable o × IsUnbroken (program_of o lists) (allowances_of o lists) options × HasRows (program_of o lists) rows.items × IsCounted o counts
-IsOutcome o lists options (Broken warnings) = IsCheckable o × AreWarnings (program_of o lists) (allowances_of o lists) options warnings.items
+IsOutcome o lists options (Accepted rows counts) = IsCheckable o lists × IsUnbroken (program_of o lists) (allowances_of o lists options) options × HasRows (program_of o lists) rows.items × IsCounted o counts
+IsOutcome o lists options (Broken warnings) = IsCheckable o lists × AreWarnings (program_of o lists) (allowances_of o lists options) options warnings.items
 
 -- what holds of the rows, where it is accepted
 abbrev pub OnAccepted : ObjectVerdict → (List PlacedRow → Type 0) → Type 0

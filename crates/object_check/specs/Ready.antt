@@ -19,10 +19,10 @@ use Rattle.object_check.specs.declared.counts.CodeCounts.{CodeCounts}
 use Rattle.object_check.specs.declared.outcome.ObjectVerdict.{ObjectVerdict}
 use Rattle.object_check.specs.declared.outcome.ObjectVerdict.TheVariants.{Accepted, Broken}
 
--- The graph is that of the object's program, and the object is in order.
+-- The graph is that of the object's program under the lists of names, and the object is in order.
 pub record IsGraphOf (o : Coded) (lists : NameLists) (parts : GraphParts) : Type 0 where
   pub tells : Tells (program_of o lists) parts
-  pub in_order : IsInOrder o
+  pub in_order : IsInOrder o lists
   pub object : ObjectIsInOrder o
 
 -- The graph tells a program that is one as the laws ask, whose instructions lie in order, and which has functions.

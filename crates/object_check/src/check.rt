@@ -118,7 +118,7 @@ pub fn check_object(
     // What the options promise of every run of its program.
     ensures promises { IfOk result (λ outcome. OnAccepted outcome (λ rows. KeepsPromises (coded_by map object.now) lists.now options)) }
     ensures unwinds { IfOk result (λ outcome. OnAccepted outcome (RowsUnwind (coded_by map object.now) lists.now)) }
-    ensures err { IfErr result (IsCheckFault (coded_by map object.now)) }
+    ensures err { IfErr result (IsCheckFault (coded_by map object.now) lists.now) }
 {
     let code = read_code(alloc, map, object, lists, options)?;
     check_room(object)?;

@@ -62,10 +62,10 @@ fn table_if_needed(
     options: Options,
 ) -> Result<Option<AllowanceTable>, NoMemory>
     ensures enough { IfOk result (IsEnough options) }
-    ensures allows { IfOk result (IsTableOf (program_of linked.now lists.now) (allowances_of linked.now lists.now)) }
+    ensures allows { IfOk result (IsTableOf (program_of linked.now lists.now) (allowances_of linked.now lists.now options)) }
 {
     if needs_allowances(options) {
-        Ok(Some(table_of(alloc, linked, lists)?))
+        Ok(Some(table_of(alloc, linked, lists, options)?))
     } else {
         Ok(None)
     }
@@ -79,9 +79,9 @@ fn code_of(
     options: Options,
 ) -> Result<ReadCode, CodeFault>
     requires short { length linked.now.elf.bytes ≤ most_bytes }
-    requires linked { IsLinked linked.now }
+    requires linked { IsLinked linked.now lists.now }
     ensures ok { IfOk result (IsCodeOf linked.now lists.now options) }
-    ensures err { IfErr result (IsCodeFault linked.now) }
+    ensures err { IfErr result (IsCodeFault linked.now lists.now) }
 {
     object_is_in_order(linked);
     let graph = flow(alloc, linked, lists)?;
@@ -110,9 +110,9 @@ pub fn read_code(
 ) -> Result<ReadCode, CodeFault>
     requires { length object.now.bytes ≤ most_bytes }
     ensures ok { IfOk result (IsCodeOf (coded_by map object.now) lists.now options) }
-    ensures err { IfErr result (IsCodeFault (coded_by map object.now)) }
+    ensures err { IfErr result (IsCodeFault (coded_by map object.now) lists.now) }
 {
-    let linked = Linked::link(alloc, map, object)?;
+    let linked = Linked::link(alloc, map, object, lists)?;
     code_of(alloc, &linked, lists, options)
 }
 

@@ -7,6 +7,7 @@ mod check;
 mod code;
 mod counts;
 mod fault;
+mod initial;
 mod laws;
 mod names;
 mod outcome;

@@ -1,6 +1,7 @@
 //! Whether an object has room for ORC sections.
 
 ghost use Rattle.std.specs.Prelude.{◌≡◌, ◌≤◌, ◌<◌, None, IfErr, OnOk, length};
+ghost use Rattle.ot_base.specs.NameLists.{NameLists};
 ghost use Rattle.elf_objects.specs.Contents.{section_at};
 ghost use Rattle.flow_defs.specs.Coded.{coded_by};
 ghost use Rattle.x86_map.specs.declared.map.Map.{Map};
@@ -35,7 +36,7 @@ fn first_orc_section(object: &Object<'_>) -> Option<u32>
 pub(crate) fn check_room(object: &Object<'_>) -> Result<(), CheckFault>
     ensures new { OnOk result (orc_section object.now ≡ None) }
     ensures few { OnOk result (length object.now.sections ≤ most_sections) }
-    ensures err { (map : Map) → IsInOrder (coded_by map object.now) → IfErr result (IsCheckFault (coded_by map object.now)) }
+    ensures err { (map : Map) (lists : NameLists) → IsInOrder (coded_by map object.now) lists → IfErr result (IsCheckFault (coded_by map object.now) lists) }
 {
     if let Some(sec) = first_orc_section(object) {
         return Err(CheckFault::HasOrc { sec });

@@ -41,7 +41,7 @@ abbrev pub IsUnrefused : List ℕ → NameLists → CheckOptions → Type 0
 IsUnrefused bytes lists options = (told : Refusal) → Refuses bytes lists options told → ⊥
 
 pub accepted_unrefused : OneOutcome → (bytes table : List ℕ) (lists : NameLists) (options : CheckOptions) → Accepts bytes lists options table → IsUnrefused bytes lists options
-accepted_unrefused one bytes table lists options accepts told (uncheckable why) = checkable_unrefused one options.map bytes accepts.object told accepts.is accepts.checkable why
+accepted_unrefused one bytes table lists options accepts told (uncheckable why) = checkable_unrefused one options.map bytes lists accepts.object told accepts.is accepts.checkable why
 accepted_unrefused one bytes table lists options accepts told (crowded o others is checkable unbroken has many count) =
     let same = one_object bytes o accepts.object is accepts.is in
     let rows = one_rows (program_of (coded_by options.map accepts.object) lists) others accepts.rows (subst (λ (x : Elf). HasRows (program_of (coded_by options.map x) lists) others) same has) accepts.has_rows in
@@ -49,13 +49,13 @@ accepted_unrefused one bytes table lists options accepts told (crowded o others 
     let few : symbols_needed accepts.object accepts.rows ≤ MAX_SYMBOLS = accepts.table_is.few in
     absurd (omega (arith, needed, few))
 
-pub breaks_unbroken : (bytes : List ℕ) (lists : NameLists) (options : CheckOptions) (o : Elf) → BreaksRule bytes lists options → IsObject bytes o → IsUnbroken (program_of (coded_by options.map o) lists) (allowances_of (coded_by options.map o) lists) options.rules → ⊥
+pub breaks_unbroken : (bytes : List ℕ) (lists : NameLists) (options : CheckOptions) (o : Elf) → BreaksRule bytes lists options → IsObject bytes o → IsUnbroken (program_of (coded_by options.map o) lists) (allowances_of (coded_by options.map o) lists options.rules) options.rules → ⊥
 breaks_unbroken bytes lists options o breaks is unbroken =
     let same = one_object bytes o breaks.object is breaks.is in
-    (subst (λ (x : Elf). IsUnbroken (program_of (coded_by options.map x) lists) (allowances_of (coded_by options.map x) lists) options.rules) same unbroken).clean breaks.place breaks.rule breaks.a breaks.b breaks.broken
+    (subst (λ (x : Elf). IsUnbroken (program_of (coded_by options.map x) lists) (allowances_of (coded_by options.map x) lists options.rules) options.rules) same unbroken).clean breaks.place breaks.rule breaks.a breaks.b breaks.broken
 
 pub broken_unrefused : OneOutcome → (bytes : List ℕ) (lists : NameLists) (options : CheckOptions) → BreaksRule bytes lists options → IsUnrefused bytes lists options
-broken_unrefused one bytes lists options breaks told (uncheckable why) = checkable_unrefused one options.map bytes breaks.object told breaks.is breaks.checkable why
+broken_unrefused one bytes lists options breaks told (uncheckable why) = checkable_unrefused one options.map bytes lists breaks.object told breaks.is breaks.checkable why
 broken_unrefused one bytes lists options breaks told (crowded o others is checkable unbroken has many count) = breaks_unbroken bytes lists options o breaks is unbroken
 
 -- where there are warnings a rule is broken

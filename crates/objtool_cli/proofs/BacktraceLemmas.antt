@@ -39,10 +39,10 @@ use Rattle.objtool_cli.specs.Checked.{allowances_under, program_under}
 use Rattle.objtool_cli.specs.Telling.{TellsWarnings, backtraces, printed, unread}
 
 -- why the code isn't read is why the object isn't checked
-pub code_unread : (o : Coded) (fault : CodeFault) → IsCodeFault o fault → IsCheckFault o (check_fault fault)
-code_unread o fault (unlinked why known is) = order.unlinked why known is
-code_unread o fault (unflowed why known linked is) = order.unflowed why known linked is
-code_unread o fault no_memory = order.no_memory
+pub code_unread : (o : Coded) (lists : NameLists) (fault : CodeFault) → IsCodeFault o lists fault → IsCheckFault o lists (check_fault fault)
+code_unread o lists fault (unlinked why known is) = order.unlinked why known is
+code_unread o lists fault (unflowed why known linked is) = order.unflowed why known linked is
+code_unread o lists fault no_memory = order.no_memory
 
 -- ---- what is warned of by rule 4 is a mismatch of states
 module _ (p : Program) (allowed : Allowances) (options : Options) where
@@ -56,14 +56,14 @@ module _ (p : Program) (allowed : Allowances) (options : Options) where
   of_access_rule place rule a b (return_with_access q reached leaves) e = omega (arith, e)
   of_access_rule place rule a b (return_without_access q reached leaves) e = omega (arith, e)
   of_access_rule place rule a b (on_twice q home reached is) e = omega (arith, e)
-  of_access_rule place rule a b (off_twice q reached is) e = omega (arith, e)
+  of_access_rule place rule a b (off_twice q owner reached of is) e = omega (arith, e)
   of_access_rule place rule a b (safe_turns_off q access reached is) e = omega (arith, e)
-  of_access_rule place rule a b (popf q access home reached is) e = omega (arith, e)
+  of_access_rule place rule a b (popf q home reached is) e = omega (arith, e)
 
   is_mismatch : (place : Place) (rule : ℕ) (a b : ℤ) → IsWarned p allowed options place rule a b → rule ≡ STATE_MISMATCH → Warns p place rule a b
   is_mismatch place rule a b (of_stack at number x y broken) e = of_broken place rule a b broken e
-  is_mismatch place rule a b (indirect_branch q asked point is listed) e = absurd (omega (arith, e))
-  is_mismatch place rule a b (naked_return q asked point is listed) e = absurd (omega (arith, e))
+  is_mismatch place rule a b (indirect_branch q asked point is listed later) e = absurd (omega (arith, e))
+  is_mismatch place rule a b (naked_return q asked point is listed later) e = absurd (omega (arith, e))
   is_mismatch place rule a b (of_access at number x y asked warns) e = absurd (of_access_rule place rule a b warns e)
 
 -- ---- what is printed of an object whose code is read again

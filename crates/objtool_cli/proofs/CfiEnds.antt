@@ -18,16 +18,16 @@ use Rattle.command_base.proofs.Stops.{names_fault, write_fault}
 use Rattle.objtool_cli.proofs.StatusLemmas.{warnings_no_sink_fault}
 use Rattle.elf_objects.specs.declared.TheConstants.{MAX_FILE_BYTES}
 
-unchecked_no_fault : (s : CommandStop) (map : Map) (o : Elf) → IsUnchecked map o s → status_of s ≢ FileFault
-unchecked_no_fault s map o (unlinked why worded) e = cc
-unchecked_no_fault s map o (unflowed why) e = cc
-unchecked_no_fault s map o (has_frames order at) e = cc
-unchecked_no_fault s map o (too_many_sections order new many count) e = cc
-unchecked_no_fault s map o out_of_memory e = cc
+unchecked_no_fault : (s : CommandStop) (map : Map) (lists : NameLists) (o : Elf) → IsUnchecked map lists o s → status_of s ≢ FileFault
+unchecked_no_fault s map lists o (unlinked why worded) e = cc
+unchecked_no_fault s map lists o (unflowed why) e = cc
+unchecked_no_fault s map lists o (has_frames order at) e = cc
+unchecked_no_fault s map lists o (too_many_sections order new many count) e = cc
+unchecked_no_fault s map lists o out_of_memory e = cc
 
 gets_no_fault : (s : CommandStop) (map : Map) (bytes : List ℕ) (lists : NameLists) → GetNoFrames map bytes lists s → status_of s ≢ FileFault
 gets_no_fault s map bytes lists (malformed fault) e = cc
-gets_no_fault s map bytes lists (unchecked o is why) e = unchecked_no_fault s map o why e
+gets_no_fault s map bytes lists (unchecked o is why) e = unchecked_no_fault s map lists o why e
 gets_no_fault s map bytes lists (too_many_symbols o rows is can unbroken has many count) e = cc
 gets_no_fault s map bytes lists no_memory e = cc
 

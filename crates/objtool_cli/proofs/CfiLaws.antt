@@ -140,7 +140,7 @@ cfi_warns one map input output names read lists held before after out out' x c i
 cfi_refuse : (s : CommandStop) (map : Map) (input output : List ℕ) (names : Option (List ℕ)) (held : Content) (before after : Outside) → before.content ≡ Some held → StopsCfi map input output names before after s → status_of s ≡ Refused → RefusesCfi map input names held s
 cfi_refuse s map input output names held before after c (unread h kept) e = input_unread (unreadable MAX_FILE_BYTES s input held before after c h e)
 cfi_refuse s map input output names held before after c (without_names read may h kept) e =
-    names_refuse (λ b l t. GetNoFrames map b l t) s input names held read before after c may h e
+    names_refuse (GetNoFrames map) s input names held read before after c may h e
 cfi_refuse s map input output names held before after c (refused read lists was h kept) e =
     input_refused read lists (is_read MAX_FILE_BYTES input read held before.content c was.may) (named_in names held before.content lists c was.named) h (not_memory s e)
 cfi_refuse s map input output names held before after c (unwritten o rows file may h others) e = absurd (write_not_refused s output before after h e)
@@ -153,7 +153,7 @@ cfi_told map input output names held before after out out' x c (stopped s h t) i
 
 refused_not_done : OneOutcome → (s : CommandStop) (map : Map) (input output : List ℕ) (names : Option (List ℕ)) (held : Content) (before after : Outside) (out out' : Output) (x : Status) → before.content ≡ Some held → RefusesCfi map input names held s → EndsCfi map input output names before after out out' x → x ≢ Done
 refused_not_done one s map input output names held before after out out' Done c why (done o rows file may e same) is =
-    unrefused (λ b l t. GetNoFrames map b l t) s input names held may.read may.lists (is_read MAX_FILE_BYTES input may.read held before.content c may.is_read.may) (named_in names held before.content may.lists c may.is_read.named)
+    unrefused (GetNoFrames map) s input names held may.read may.lists (is_read MAX_FILE_BYTES input may.read held before.content c may.is_read.may) (named_in names held before.content may.lists c may.is_read.named)
     (λ u no. gets_excluded one u map may.read may.lists o rows may.gets no) why
 refused_not_done one s map input output names held before after out out' x c why (warned o warnings may kept t) is = warned_not_done _ out out' x t is
 refused_not_done one s map input output names held before after out out' x c why (stopped told h t) is = concluded_not_done told out out' x t is
@@ -161,22 +161,22 @@ refused_not_done one s map input output names held before after out out' x c why
 refused_not_warned : OneOutcome → (s : CommandStop) (map : Map) (input output : List ℕ) (names : Option (List ℕ)) (held : Content) (before after : Outside) (out out' : Output) (x : Status) → before.content ≡ Some held → RefusesCfi map input names held s → EndsCfi map input output names before after out out' x → x ≢ Warnings
 refused_not_warned one s map input output names held before after out out' Done c why (done o rows file may e same) is = done_not_warned is
 refused_not_warned one s map input output names held before after out out' x c why (warned o warnings may kept t) is =
-    unrefused (λ b l t. GetNoFrames map b l t) s input names held may.read may.lists (is_read MAX_FILE_BYTES input may.read held before.content c may.is_read.may) (named_in names held before.content may.lists c may.is_read.named)
+    unrefused (GetNoFrames map) s input names held may.read may.lists (is_read MAX_FILE_BYTES input may.read held before.content c may.is_read.may) (named_in names held before.content may.lists c may.is_read.named)
     (λ u no. broken_excluded one u map may.read may.lists (warns_breaks map may.read may.lists o warnings may.warns) no) why
 refused_not_warned one s map input output names held before after out out' x c why (stopped told h t) is = concluded_no_warnings told out out' x t is
 
 -- ---- usage
 
-unchecked_no_usage : (s : CommandStop) (map : Map) (o : Elf) → IsUnchecked map o s → status_of s ≢ Usage
-unchecked_no_usage s map o (unlinked why worded) e = cc
-unchecked_no_usage s map o (unflowed why) e = cc
-unchecked_no_usage s map o (has_frames order at) e = cc
-unchecked_no_usage s map o (too_many_sections order new many count) e = cc
-unchecked_no_usage s map o out_of_memory e = cc
+unchecked_no_usage : (s : CommandStop) (map : Map) (lists : NameLists) (o : Elf) → IsUnchecked map lists o s → status_of s ≢ Usage
+unchecked_no_usage s map lists o (unlinked why worded) e = cc
+unchecked_no_usage s map lists o (unflowed why) e = cc
+unchecked_no_usage s map lists o (has_frames order at) e = cc
+unchecked_no_usage s map lists o (too_many_sections order new many count) e = cc
+unchecked_no_usage s map lists o out_of_memory e = cc
 
 gets_no_usage : (s : CommandStop) (map : Map) (bytes : List ℕ) (lists : NameLists) → GetNoFrames map bytes lists s → status_of s ≢ Usage
 gets_no_usage s map bytes lists (malformed fault) e = cc
-gets_no_usage s map bytes lists (unchecked o is why) e = unchecked_no_usage s map o why e
+gets_no_usage s map bytes lists (unchecked o is why) e = unchecked_no_usage s map lists o why e
 gets_no_usage s map bytes lists (too_many_symbols o rows is can unbroken has many count) e = cc
 gets_no_usage s map bytes lists no_memory e = cc
 

@@ -47,21 +47,21 @@ table_cut_off (Err s) o rows output table before after is h others = cut_off tab
 
 -- ---- what the check comes to
 
-pub warned_end : (input output : List ℕ) (options : CheckOptions) (names : Option (List ℕ)) (read : List ℕ) (lists : NameLists) (before after : Outside) (out out' : Output) (x : Status) (o : Elf) (warnings told : List Warning) → IsRead before.content input names read lists → IsObject read o → IsCheckable (coded_by options.map o) × AreWarnings (program_of (coded_by options.map o) lists) (allowances_of (coded_by options.map o) lists) options.rules warnings → after.content ≡ before.content → told ≡ warnings → TellsWarnings input options lists o told out out' x → EndsCheck input output options names before after out out' x
+pub warned_end : (input output : List ℕ) (options : CheckOptions) (names : Option (List ℕ)) (read : List ℕ) (lists : NameLists) (before after : Outside) (out out' : Output) (x : Status) (o : Elf) (warnings told : List Warning) → IsRead before.content input names read lists → IsObject read o → IsCheckable (coded_by options.map o) lists × AreWarnings (program_of (coded_by options.map o) lists) (allowances_of (coded_by options.map o) lists options.rules) options.rules warnings → after.content ≡ before.content → told ≡ warnings → TellsWarnings input options lists o told out out' x → EndsCheck input output options names before after out out' x
 warned_end input output options names read lists before after out out' x o warnings told is_read is found kept same t =
     ends x (subst (λ (ws : List Warning). TellsWarnings input options lists o ws out out' x) same t)
   where
     ends : (x : Status) → TellsWarnings input options lists o warnings out out' x → EndsCheck input output options names before after out out' x
     ends x (printed text is_text prints) = warned o warnings (record { read = read; lists = lists; is_read = is_read; warns = record { is = is; checkable = found.0; are = found.1 }; told = is_text }) kept prints
-    ends x (unread s why concludes) = stopped s (refused read lists is_read (uncheckable_refusal read lists options s (check_uncheckable options.map read o s is why)) kept) concludes
+    ends x (unread s why concludes) = stopped s (refused read lists is_read (uncheckable_refusal read lists options s (check_uncheckable options.map read lists o s is why)) kept) concludes
 
 -- an object that breaks no rule, and its rows
 abbrev pub IsSound : Elf → NameLists → CheckOptions → List PlacedRow → Type 0
-IsSound o lists options rows = IsCheckable (coded_by options.map o) × IsUnbroken (program_of (coded_by options.map o) lists) (allowances_of (coded_by options.map o) lists) options.rules × HasRows (program_of (coded_by options.map o) lists) rows
+IsSound o lists options rows = IsCheckable (coded_by options.map o) lists × IsUnbroken (program_of (coded_by options.map o) lists) (allowances_of (coded_by options.map o) lists options.rules) options.rules × HasRows (program_of (coded_by options.map o) lists) rows
 
 -- as its check finds it
 pub sound : (o : Elf) (lists : NameLists) (options : CheckOptions) (rows : List PlacedRow) (counts : CodeCounts)
-    → IsCheckable (coded_by options.map o) × IsUnbroken (program_of (coded_by options.map o) lists) (allowances_of (coded_by options.map o) lists) options.rules × HasRows (program_of (coded_by options.map o) lists) rows × IsCounted (coded_by options.map o) counts → IsSound o lists options rows
+    → IsCheckable (coded_by options.map o) lists × IsUnbroken (program_of (coded_by options.map o) lists) (allowances_of (coded_by options.map o) lists options.rules) options.rules × HasRows (program_of (coded_by options.map o) lists) rows × IsCounted (coded_by options.map o) counts → IsSound o lists options rows
 sound o lists options rows counts found = (found.0, found.1, found.2)
 
 accepts : (o : Elf) (read : List ℕ) (lists : NameLists) (options : CheckOptions) (rows : List PlacedRow) (table : List ℕ) → IsObject read o → IsSound o lists options rows → IsTable o rows table → Accepts read lists options table

@@ -3,6 +3,7 @@
 use Rattle.std.proofs.Common.{◌≡◌, ℕ, ◌≤◌, List, [], ◌∷◌, length, refl, sym, ap, ◌∙◌, arith, subst}
 use Rattle.std.specs.Prelude.{◌≢◌, Contains, Some, None, Option}
 use Rattle.std.proofs.Math.Path.{fun_ext}
+use Rattle.ot_base.specs.NameLists.{NameLists}
 use Rattle.ot_base.specs.declared.row.PlacedRow.{PlacedRow}
 use Rattle.ot_base.specs.declared.warning.Warning.{Warning}
 use Rattle.state_defs.specs.declared.state.State.{State}
@@ -26,45 +27,45 @@ use Rattle.command_base.specs.declared.refusal.Refusal.TheVariants as refusal
 use Rattle.objtool_cli.specs.Checked.{IsUncheckable, TellsCheckFault, malformed, unchecked}
 use Rattle.code_commands.proofs.NoFault.{none_and_some, not_unflowed, not_unlinked}
 
-not_faulty : OneOutcome → (o : Coded) (why : CheckFault) → why ≢ fault.NoMemory → IsCheckable o → IsCheckFault o why → ⊥
-not_faulty one o why some can (unlinked told other h) = not_unlinked one o told other can.in_order.linked h
-not_faulty one o why some can (unflowed told other linked h) = not_unflowed o told other can.in_order.flow h
-not_faulty one o why some can (has_orc sec order at) = none_and_some (orc_section o.elf) sec can.new at
-not_faulty one o why some can (crowded order new many) =
+not_faulty : OneOutcome → (o : Coded) (lists : NameLists) (why : CheckFault) → why ≢ fault.NoMemory → IsCheckable o lists → IsCheckFault o lists why → ⊥
+not_faulty one o lists why some can (unlinked told other h) = not_unlinked one o lists told other can.in_order.linked h
+not_faulty one o lists why some can (unflowed told other linked h) = not_unflowed o told other can.in_order.flow h
+not_faulty one o lists why some can (has_orc sec order at) = none_and_some (orc_section o.elf) sec can.new at
+not_faulty one o lists why some can (crowded order new many) =
     let few : length o.elf.sections ≤ most_sections = can.few in
     absurd (omega (arith, few, many))
-not_faulty one o why some can no_memory = some refl
+not_faulty one o lists why some can no_memory = some refl
 
 -- no refusal tells why it isn't checked
-pub not_told : OneOutcome → (o : Coded) (told : Refusal) → IsCheckable o → TellsCheckFault o told → ⊥
-not_told one o (refusal.Unlinked told) can h = not_faulty one o _ (λ e. cc) can h.0
-not_told one o (refusal.Unflowed told) can h = not_faulty one o _ (λ e. cc) can h
-not_told one o (refusal.HasOrc sec) can h = not_faulty one o _ (λ e. cc) can h
-not_told one o (refusal.HasSites sec) can h = h
-not_told one o (refusal.Sites why) can h = h
-not_told one o (refusal.HasFrames sec) can h = h
-not_told one o (refusal.Frames why) can h = h
-not_told one o (refusal.Layout why) can h = h
-not_told one o (refusal.TooManyFiles count) can h = h
-not_told one o (refusal.Merge why) can h = h
-not_told one o (refusal.Table why) can h = h
-not_told one o (refusal.NoFunction function) can h = h
-not_told one o (refusal.TooMany counted.Sections count) can h = not_faulty one o _ (λ e. cc) can h
-not_told one o (refusal.TooMany counted.Symbols count) can h = h
-not_told one o (refusal.TooMany counted.TextBytes count) can h = h
-not_told one o (refusal.Malformed why) can h = h
-not_told one o (refusal.Orc why) can h = h
-not_told one o (refusal.Lists why) can h = h
-not_told one o (refusal.Image why) can h = h
-not_told one o (refusal.NoText sec) can h = h
-not_told one o (refusal.Unplaced why) can h = h
+pub not_told : OneOutcome → (o : Coded) (lists : NameLists) (told : Refusal) → IsCheckable o lists → TellsCheckFault o lists told → ⊥
+not_told one o lists (refusal.Unlinked told) can h = not_faulty one o lists _ (λ e. cc) can h.0
+not_told one o lists (refusal.Unflowed told) can h = not_faulty one o lists _ (λ e. cc) can h
+not_told one o lists (refusal.HasOrc sec) can h = not_faulty one o lists _ (λ e. cc) can h
+not_told one o lists (refusal.HasSites sec) can h = h
+not_told one o lists (refusal.Sites why) can h = h
+not_told one o lists (refusal.HasFrames sec) can h = h
+not_told one o lists (refusal.Frames why) can h = h
+not_told one o lists (refusal.Layout why) can h = h
+not_told one o lists (refusal.TooManyFiles count) can h = h
+not_told one o lists (refusal.Merge why) can h = h
+not_told one o lists (refusal.Table why) can h = h
+not_told one o lists (refusal.NoFunction function) can h = h
+not_told one o lists (refusal.TooMany counted.Sections count) can h = not_faulty one o lists _ (λ e. cc) can h
+not_told one o lists (refusal.TooMany counted.Symbols count) can h = h
+not_told one o lists (refusal.TooMany counted.TextBytes count) can h = h
+not_told one o lists (refusal.Malformed why) can h = h
+not_told one o lists (refusal.Orc why) can h = h
+not_told one o lists (refusal.Lists why) can h = h
+not_told one o lists (refusal.Image why) can h = h
+not_told one o lists (refusal.NoText sec) can h = h
+not_told one o lists (refusal.Unplaced why) can h = h
 
 -- ---- its bytes
 
 -- and nothing keeps them from being checked
-pub checkable_unrefused : OneOutcome → (map : Map) (bytes : List ℕ) (o : Elf) (told : Refusal) → IsObject bytes o → IsCheckable (coded_by map o) → IsUncheckable map bytes told → ⊥
-checkable_unrefused one map bytes o told is can (malformed fault) = FirstFault-not bytes _ fault is.well_formed
-checkable_unrefused one map bytes o told is can (unchecked p other tells) = not_told one (coded_by map o) told can (subst (λ (x : Elf). TellsCheckFault (coded_by map x) told) (one_object bytes p o other is) tells)
+pub checkable_unrefused : OneOutcome → (map : Map) (bytes : List ℕ) (lists : NameLists) (o : Elf) (told : Refusal) → IsObject bytes o → IsCheckable (coded_by map o) lists → IsUncheckable map bytes lists told → ⊥
+checkable_unrefused one map bytes lists o told is can (malformed fault) = FirstFault-not bytes _ fault is.well_formed
+checkable_unrefused one map bytes lists o told is can (unchecked p other tells) = not_told one (coded_by map o) lists told can (subst (λ (x : Elf). TellsCheckFault (coded_by map x) lists told) (one_object bytes p o other is) tells)
 
 -- ---- the rows of a program
 

@@ -33,7 +33,7 @@ use Rattle.command_base.proofs.Stops.{names_earlier, outside, read_earlier, writ
 
 -- an object that breaks no rule, and its rows
 abbrev pub IsSound : Map → Elf → NameLists → List PlacedRow → Type 0
-IsSound map o lists rows = IsCheckable (coded_by map o) × IsUnbroken (program_under map lists o) (allowances_under map lists o) default_rules × HasRows (program_under map lists o) rows
+IsSound map o lists rows = IsCheckable (coded_by map o) lists × IsUnbroken (program_under map lists o) (allowances_under map lists o) default_rules × HasRows (program_under map lists o) rows
 
 gets_frames : (map : Map) (o : Elf) (lists : NameLists) (rows : List PlacedRow) → IsSound map o lists rows → symbols_needed o rows ≤ MAX_SYMBOLS → GetsFrames map lists o rows
 gets_frames map o lists rows sound few = record { checkable = sound.0; unbroken = sound.1; has_rows = sound.2; few_symbols = few }
@@ -86,7 +86,7 @@ pub crowded : (map : Map) (read : List ℕ) (lists : NameLists) (o : Elf) (rows 
 crowded map read lists o rows told s is sound same h = crowd map read lists o rows s is sound (subst (λ (rs : List PlacedRow). IsCrowded o rs s) same h)
 
 pub warned_end : (map : Map) (input output : List ℕ) (names : Option (List ℕ)) (read : List ℕ) (lists : NameLists) (before after : Outside) (out out' : Output) (x : Status) (o : Elf) (warnings told : List Warning) → IsRead before.content input names read lists → IsObject read o
-    → IsCheckable (coded_by map o) × AreWarnings (program_under map lists o) (allowances_under map lists o) default_rules warnings → after.content ≡ before.content → told ≡ warnings → Prints status.Warnings (warnings_text o told) out out' x → EndsCfi map input output names before after out out' x
+    → IsCheckable (coded_by map o) lists × AreWarnings (program_under map lists o) (allowances_under map lists o) default_rules warnings → after.content ≡ before.content → told ≡ warnings → Prints status.Warnings (warnings_text o told) out out' x → EndsCfi map input output names before after out out' x
 warned_end map input output names read lists before after out out' x o warnings told was is found kept same t =
     warned o warnings (record { read = read; lists = lists; is_read = was; warns = record { is = is; checkable = found.0; are = found.1 } }) kept
     (subst (λ (ws : List Warning). Prints status.Warnings (warnings_text o ws) out out' x) same t)

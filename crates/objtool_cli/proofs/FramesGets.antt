@@ -39,38 +39,38 @@ pub no_object : (map : Map) (bytes : List ℕ) (lists : NameLists) (e : ElfFault
 no_object map bytes lists e h = of_parse (GetNoFrames map bytes lists) bytes e (λ first fault. malformed fault) no_memory h
 
 -- the fault of those who read texts, sections, functions and alternatives
-pub link_fault_of : (o : Coded) (fault : LinkFault) → IsCodeFault o (code.Link fault) → IsLinkFault o fault
-link_fault_of o fault h = of (code.Link fault) refl h
+pub link_fault_of : (o : Coded) (lists : NameLists) (fault : LinkFault) → IsCodeFault o lists (code.Link fault) → IsLinkFault o lists fault
+link_fault_of o lists fault h = of (code.Link fault) refl h
   where
-    of : (f : CodeFault) → f ≡ code.Link fault → IsCodeFault o f → IsLinkFault o fault
-    of f e (checked.unlinked other some why) = let same : other ≡ fault = cc in subst (IsLinkFault o) same why
+    of : (f : CodeFault) → f ≡ code.Link fault → IsCodeFault o lists f → IsLinkFault o lists fault
+    of f e (checked.unlinked other some why) = let same : other ≡ fault = cc in subst (IsLinkFault o lists) same why
     of f e (checked.unflowed other some linked why) = let z : ⊥ = cc in absurd z
     of f e checked.no_memory = let z : ⊥ = cc in absurd z
 
-pub no_link : (s : CommandStop) (map : Map) (o : Elf) (fault : LinkFault) → IsCodeFault (coded_by map o) (code.Link fault) → IsLinkStop o fault s → IsUnchecked map o s
-no_link s map o fault is h =
-    of_link (IsUnchecked map o) o fault s (λ told some same worded. unlinked (subst (λ (f : LinkFault). IsCodeFault (coded_by map o) (code.Link f)) (sym same) is) worded) out_of_memory h
+pub no_link : (s : CommandStop) (map : Map) (lists : NameLists) (o : Elf) (fault : LinkFault) → IsCodeFault (coded_by map o) lists (code.Link fault) → IsLinkStop o fault s → IsUnchecked map lists o s
+no_link s map lists o fault is h =
+    of_link (IsUnchecked map lists o) o fault s (λ told some same worded. unlinked (subst (λ (f : LinkFault). IsCodeFault (coded_by map o) lists (code.Link f)) (sym same) is) worded) out_of_memory h
 
-pub no_flow : (map : Map) (o : Elf) (fault : FlowFault) → IsCodeFault (coded_by map o) (code.Flow fault) → IsUnchecked map o (flow_stop fault)
-no_flow map o fault h = of_flow (IsUnchecked map o) fault (λ some. unflowed h) out_of_memory
+pub no_flow : (map : Map) (lists : NameLists) (o : Elf) (fault : FlowFault) → IsCodeFault (coded_by map o) lists (code.Flow fault) → IsUnchecked map lists o (flow_stop fault)
+no_flow map lists o fault h = of_flow (IsUnchecked map lists o) fault (λ some. unflowed h) out_of_memory
 
 -- ---- where an object gets them
 
 -- an object in order has no fault but want of memory
-no_code_fault : OneOutcome → (o : Coded) (fault : CodeFault) → IsInOrder o → IsCodeFault o fault → fault ≡ code.NoMemory
-no_code_fault one o fault order (checked.unlinked why other h) = absurd (not_unlinked one o why other order.linked h)
-no_code_fault one o fault order (checked.unflowed why other linked h) = absurd (not_unflowed o why other order.flow h)
-no_code_fault one o fault order checked.no_memory = refl
+no_code_fault : OneOutcome → (o : Coded) (lists : NameLists) (fault : CodeFault) → IsInOrder o lists → IsCodeFault o lists fault → fault ≡ code.NoMemory
+no_code_fault one o lists fault order (checked.unlinked why other h) = absurd (not_unlinked one o lists why other order.linked h)
+no_code_fault one o lists fault order (checked.unflowed why other linked h) = absurd (not_unflowed o why other order.flow h)
+no_code_fault one o lists fault order checked.no_memory = refl
 
 -- one that is checked is stopped by want of memory alone
-pub checked_excluded : OneOutcome → (s : CommandStop) (map : Map) (o : Elf) → IsCheckable (coded_by map o) → IsUnchecked map o s → s ≡ stop.NoMemory
-checked_excluded one s map o can (unlinked {told = told} why worded) = let same = no_code_fault one (coded_by map o) (code.Link told.fault) can.in_order why in cc
-checked_excluded one s map o can (unflowed {told = told} why) = let same = no_code_fault one (coded_by map o) (code.Flow told.fault) can.in_order why in cc
-checked_excluded one s map o can (has_frames {sec = sec} order at) = absurd (none_and_some (first_frame o) sec can.new at)
-checked_excluded one s map o can (too_many_sections order new many count) =
+pub checked_excluded : OneOutcome → (s : CommandStop) (map : Map) (lists : NameLists) (o : Elf) → IsCheckable (coded_by map o) lists → IsUnchecked map lists o s → s ≡ stop.NoMemory
+checked_excluded one s map lists o can (unlinked {told = told} why worded) = let same = no_code_fault one (coded_by map o) lists (code.Link told.fault) can.in_order why in cc
+checked_excluded one s map lists o can (unflowed {told = told} why) = let same = no_code_fault one (coded_by map o) lists (code.Flow told.fault) can.in_order why in cc
+checked_excluded one s map lists o can (has_frames {sec = sec} order at) = absurd (none_and_some (first_frame o) sec can.new at)
+checked_excluded one s map lists o can (too_many_sections order new many count) =
     let few : length o.sections ≤ most_sections = can.few in
     absurd (omega (arith, few, many))
-checked_excluded one s map o can out_of_memory = refl
+checked_excluded one s map lists o can out_of_memory = refl
 
 -- ---- bytes
 
@@ -78,7 +78,7 @@ checked_excluded one s map o can out_of_memory = refl
 pub gets_excluded : OneOutcome → (s : CommandStop) (map : Map) (bytes : List ℕ) (lists : NameLists) (o : Elf) (rows : List PlacedRow) → Gets map bytes lists o rows → GetNoFrames map bytes lists s → s ≡ stop.NoMemory
 gets_excluded one s map bytes lists o rows g (malformed fault) = absurd (FirstFault-not bytes _ fault g.is.well_formed)
 gets_excluded one s map bytes lists o rows g (unchecked p other why) =
-    checked_excluded one s map p (subst (λ (x : Elf). IsCheckable (coded_by map x)) (one_object bytes o p g.is other) g.gets.checkable) why
+    checked_excluded one s map lists p (subst (λ (x : Elf). IsCheckable (coded_by map x) lists) (one_object bytes o p g.is other) g.gets.checkable) why
 gets_excluded one s map bytes lists o rows g (too_many_symbols p others other can unbroken has many count) =
     let same = one_object bytes p o other g.is in
     let rows_are = one_rows (program_under map lists o) others rows (subst (λ (x : Elf). HasRows (program_under map lists x) others) same has) g.gets.has_rows in
@@ -96,7 +96,7 @@ breaks_unbroken map bytes lists o breaks is unbroken =
 pub broken_excluded : OneOutcome → (s : CommandStop) (map : Map) (bytes : List ℕ) (lists : NameLists) → BreaksRule map bytes lists → GetNoFrames map bytes lists s → s ≡ stop.NoMemory
 broken_excluded one s map bytes lists breaks (malformed fault) = absurd (FirstFault-not bytes _ fault breaks.is.well_formed)
 broken_excluded one s map bytes lists breaks (unchecked p other why) =
-    checked_excluded one s map p (subst (λ (x : Elf). IsCheckable (coded_by map x)) (one_object bytes breaks.object p breaks.is other) breaks.checkable) why
+    checked_excluded one s map lists p (subst (λ (x : Elf). IsCheckable (coded_by map x) lists) (one_object bytes breaks.object p breaks.is other) breaks.checkable) why
 broken_excluded one s map bytes lists breaks (too_many_symbols p others other can unbroken has many count) = absurd (breaks_unbroken map bytes lists p breaks other unbroken)
 broken_excluded one s map bytes lists breaks no_memory = refl
 

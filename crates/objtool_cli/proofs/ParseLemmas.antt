@@ -13,23 +13,23 @@ use Rattle.command_base.specs.Reading.{parse_stop}
 use Rattle.command_base.proofs.FaultStops.{of_parse}
 use Rattle.objtool_cli.specs.Checked.{IsRefusal, IsUnchecked, IsUncheckableStop, malformed, uncheckable, unchecked}
 
-pub parse_uncheckable : (map : Map) (bytes : List ℕ) (e : ElfFault) → Refuses (FirstFault bytes) e → IsUncheckableStop map bytes (parse_stop e)
-parse_uncheckable map bytes e h = of_parse (IsUncheckableStop map bytes) bytes e (λ first fault. malformed fault) tt h
+pub parse_uncheckable : (map : Map) (bytes : List ℕ) (lists : NameLists) (e : ElfFault) → Refuses (FirstFault bytes) e → IsUncheckableStop map bytes lists (parse_stop e)
+parse_uncheckable map bytes lists e h = of_parse (IsUncheckableStop map bytes lists) bytes e (λ first fault. malformed fault) tt h
 
 -- what is told of an object that isn't checked is why its bytes can't be
-pub check_uncheckable : (map : Map) (bytes : List ℕ) (o : Elf) (s : CommandStop) → IsObject bytes o → IsUnchecked (coded_by map o) s → IsUncheckableStop map bytes s
-check_uncheckable map bytes o (stop.Refused refusal) is h = unchecked o is h
-check_uncheckable map bytes o stop.NoMemory is h = tt
-check_uncheckable map bytes o (stop.Usage usage) is h = absurd h
-check_uncheckable map bytes o (stop.PartMissing part file) is h = absurd h
-check_uncheckable map bytes o (stop.PartTooLong part file limit) is h = absurd h
-check_uncheckable map bytes o (stop.PartRefused part refusal) is h = absurd h
-check_uncheckable map bytes o (stop.Missing file) is h = absurd h
-check_uncheckable map bytes o (stop.TooLong file limit) is h = absurd h
-check_uncheckable map bytes o (stop.FileFault file) is h = absurd h
+pub check_uncheckable : (map : Map) (bytes : List ℕ) (lists : NameLists) (o : Elf) (s : CommandStop) → IsObject bytes o → IsUnchecked (coded_by map o) lists s → IsUncheckableStop map bytes lists s
+check_uncheckable map bytes lists o (stop.Refused refusal) is h = unchecked o is h
+check_uncheckable map bytes lists o stop.NoMemory is h = tt
+check_uncheckable map bytes lists o (stop.Usage usage) is h = absurd h
+check_uncheckable map bytes lists o (stop.PartMissing part file) is h = absurd h
+check_uncheckable map bytes lists o (stop.PartTooLong part file limit) is h = absurd h
+check_uncheckable map bytes lists o (stop.PartRefused part refusal) is h = absurd h
+check_uncheckable map bytes lists o (stop.Missing file) is h = absurd h
+check_uncheckable map bytes lists o (stop.TooLong file limit) is h = absurd h
+check_uncheckable map bytes lists o (stop.FileFault file) is h = absurd h
 
 -- an input is refused whose bytes can't be checked
-pub uncheckable_refusal : (bytes : List ℕ) (lists : NameLists) (options : CheckOptions) (s : CommandStop) → IsUncheckableStop options.map bytes s → IsRefusal bytes lists options s
+pub uncheckable_refusal : (bytes : List ℕ) (lists : NameLists) (options : CheckOptions) (s : CommandStop) → IsUncheckableStop options.map bytes lists s → IsRefusal bytes lists options s
 uncheckable_refusal bytes lists options (stop.Refused refusal) h = uncheckable h
 uncheckable_refusal bytes lists options stop.NoMemory h = tt
 uncheckable_refusal bytes lists options (stop.Usage usage) h = absurd h

@@ -123,19 +123,19 @@ cfa_answered meaning before after out out' x file bytes o rules held ends n c is
   | inr none ↦ no_memory_left out out' x none.1
 ]
 
-pub entry_answered : OneOutcome → (meaning : Meaning) (before after : Outside) (out out' : Output) (x : Status) (input : List ℕ) (rules : EntryRules) (map : Map) (names : Option (List ℕ)) (read : List ℕ) (o : Elf) (lists : NameLists) (held : Content) → Ends meaning before after out out' x → meaning ≡ Ok (entry input rules map names) → before.content ≡ Some held → reading held input MAX_FILE_BYTES ≡ Ok read → HasNames (Some held) names lists → IsObject read o → IsInOrder (coded_by map o) → IsUnbroken (coded_by map o) lists (entry_options rules) → IsAnswered x
+pub entry_answered : OneOutcome → (meaning : Meaning) (before after : Outside) (out out' : Output) (x : Status) (input : List ℕ) (rules : EntryRules) (map : Map) (names : Option (List ℕ)) (read : List ℕ) (o : Elf) (lists : NameLists) (held : Content) → Ends meaning before after out out' x → meaning ≡ Ok (entry input rules map names) → before.content ≡ Some held → reading held input MAX_FILE_BYTES ≡ Ok read → HasNames (Some held) names lists → IsObject read o → IsInOrder (coded_by map o) lists → IsUnbroken (coded_by map o) lists (entry_options rules) → IsAnswered x
 entry_answered one meaning before after out out' x input rules map names read o lists held ends n c is named of order clean = elim (ends_as (entry input rules map names) meaning before after out out' x ends n) [
   | inl h ↦ entry_accepts one map (entry_options rules) input names read o lists held before after out out' x c is named of order clean h.0
   | inr none ↦ no_memory_left out out' x none.1
 ]
 
-pub entry_broken : OneOutcome → (meaning : Meaning) (before after : Outside) (out out' : Output) (x : Status) (input : List ℕ) (rules : EntryRules) (map : Map) (names : Option (List ℕ)) (read : List ℕ) (o : Elf) (lists : NameLists) (held : Content) → Ends meaning before after out out' x → meaning ≡ Ok (entry input rules map names) → before.content ≡ Some held → reading held input MAX_FILE_BYTES ≡ Ok read → HasNames (Some held) names lists → IsObject read o → IsInOrder (coded_by map o) → BreaksEntryRule (coded_by map o) lists (entry_options rules) → IsWarnedOrFails x
+pub entry_broken : OneOutcome → (meaning : Meaning) (before after : Outside) (out out' : Output) (x : Status) (input : List ℕ) (rules : EntryRules) (map : Map) (names : Option (List ℕ)) (read : List ℕ) (o : Elf) (lists : NameLists) (held : Content) → Ends meaning before after out out' x → meaning ≡ Ok (entry input rules map names) → before.content ≡ Some held → reading held input MAX_FILE_BYTES ≡ Ok read → HasNames (Some held) names lists → IsObject read o → IsInOrder (coded_by map o) lists → BreaksEntryRule (coded_by map o) lists (entry_options rules) → IsWarnedOrFails x
 entry_broken one meaning before after out out' x input rules map names read o lists held ends n c is named of order breaks = elim (ends_as (entry input rules map names) meaning before after out out' x ends n) [
   | inl h ↦ entry_warns one map (entry_options rules) input names read o lists held before after out out' x c is named of order breaks h.0
   | inr none ↦ inr (inr (inr (concluded_no_memory out out' x none.1)))
 ]
 
-pub show_answered : OneOutcome → (meaning : Meaning) (before after : Outside) (out out' : Output) (x : Status) (input : List ℕ) (function : Option (List ℕ)) (map : Map) (names : Option (List ℕ)) (read : List ℕ) (o : Elf) (lists : NameLists) (held : Content) → Ends meaning before after out out' x → meaning ≡ Ok (show input function map names) → before.content ≡ Some held → reading held input MAX_FILE_BYTES ≡ Ok read → HasNames (Some held) names lists → IsObject read o → IsInOrder (coded_by map o) → HasCode o (program_of (coded_by map o) lists) function → IsAnswered x
+pub show_answered : OneOutcome → (meaning : Meaning) (before after : Outside) (out out' : Output) (x : Status) (input : List ℕ) (function : Option (List ℕ)) (map : Map) (names : Option (List ℕ)) (read : List ℕ) (o : Elf) (lists : NameLists) (held : Content) → Ends meaning before after out out' x → meaning ≡ Ok (show input function map names) → before.content ≡ Some held → reading held input MAX_FILE_BYTES ≡ Ok read → HasNames (Some held) names lists → IsObject read o → IsInOrder (coded_by map o) lists → HasCode o (program_of (coded_by map o) lists) function → IsAnswered x
 show_answered one meaning before after out out' x input function map names read o lists held ends n c is named of order code = elim (ends_as (show input function map names) meaning before after out out' x ends n) [
   | inl h ↦ show_accepts one map input names function read o lists held before after out out' x c is named of order code h.0
   | inr none ↦ no_memory_left out out' x none.1

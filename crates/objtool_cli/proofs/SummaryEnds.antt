@@ -1,6 +1,7 @@
 -- What the status that bytes are summed up with says of why, and of what was printed.
 use Rattle.std.proofs.Common.{◌≡◌, ℕ, List, sym, inl, inr, ◌∙◌}
 use Rattle.std.specs.Prelude.{◌≢◌}
+use Rattle.ot_base.specs.NameLists.{built_in}
 use Rattle.ot_files.specs.Causes.{Rose}
 use Rattle.ot_files.specs.Output.{appending}
 use Rattle.command_base.specs.declared.refusal.Refusal.{Refusal}
@@ -56,7 +57,7 @@ done_no_warnings e = cc
 
 -- ---- faults
 
-uncheckable_no_fault : (bytes : List ℕ) (s : CommandStop) → IsUncheckableStop no_options.map bytes s → status_of s ≢ FileFault
+uncheckable_no_fault : (bytes : List ℕ) (s : CommandStop) → IsUncheckableStop no_options.map bytes built_in s → status_of s ≢ FileFault
 uncheckable_no_fault bytes (stop.Refused refusal) h e = cc
 uncheckable_no_fault bytes stop.NoMemory h e = cc
 uncheckable_no_fault bytes (stop.Usage usage) h e = absurd h
@@ -94,14 +95,14 @@ sums_warned title bytes out out' x (passed counts rows p t) e = absurd (done_no_
 sums_warned title bytes out out' x (warned o warnings w t) e = record { object = o; warnings = warnings; warns = w; printed = printed_whole Warnings (warnings_text o warnings) out out' x t e warnings_plain }
 sums_warned title bytes out out' x (stopped s h t) e = absurd (concluded_no_warnings s out out' x t e)
 
-refusal_told : (told : Refusal) (bytes : List ℕ) (out out' : Output) (x : Status) → IsUncheckable no_options.map bytes told → Concludes (stop.Refused told) out out' x → x ≡ Refused → PrintsRefusal bytes out.written out'.written
+refusal_told : (told : Refusal) (bytes : List ℕ) (out out' : Output) (x : Status) → IsUncheckable no_options.map bytes built_in told → Concludes (stop.Refused told) out out' x → x ≡ Refused → PrintsRefusal bytes out.written out'.written
 refusal_told told bytes out out' x h (tells other t) e = record { refusal = told; uncheckable = h; printed = printed_whole Refused (line_of (stop.Refused told)) out out' x t e refused_plain }
 refusal_told told bytes out out' NoMemory h (silent is same) e = absurd (refused_plain.memory (sym e))
 
 no_refusal : (out out' : Output) (x : Status) → Concludes stop.NoMemory out out' x → x ≢ Refused
 no_refusal out out' x t e = refused_plain.memory (sym e ∙ concluded_no_memory out out' x t)
 
-stop_refused : (s : CommandStop) (bytes : List ℕ) (out out' : Output) (x : Status) → IsUncheckableStop no_options.map bytes s → Concludes s out out' x → x ≡ Refused → PrintsRefusal bytes out.written out'.written
+stop_refused : (s : CommandStop) (bytes : List ℕ) (out out' : Output) (x : Status) → IsUncheckableStop no_options.map bytes built_in s → Concludes s out out' x → x ≡ Refused → PrintsRefusal bytes out.written out'.written
 stop_refused (stop.Refused told) bytes out out' x h t e = refusal_told told bytes out out' x h t e
 stop_refused stop.NoMemory bytes out out' x h t e = absurd (no_refusal out out' x t e)
 stop_refused (stop.Usage usage) bytes out out' x h t e = absurd h

@@ -34,12 +34,12 @@ use Rattle.objtool_cli.proofs.CheckableLemmas.{checkable_unrefused, one_rows}
 -- ---- what the check comes to
 
 pub passes_of : (bytes : List ℕ) (o : Elf) (lists : NameLists) (counts : CodeCounts) (rows : List PlacedRow) (n : ℕ)
-    → lists ≡ built_in → IsObject bytes o → IsCheckable (coded_by no_options.map o) × IsUnbroken (program_of (coded_by no_options.map o) lists) (allowances_of (coded_by no_options.map o) lists) no_options.rules × HasRows (program_of (coded_by no_options.map o) lists) rows × IsCounted (coded_by no_options.map o) counts → n ≡ length rows → Passes bytes counts n
+    → lists ≡ built_in → IsObject bytes o → IsCheckable (coded_by no_options.map o) lists × IsUnbroken (program_of (coded_by no_options.map o) lists) (allowances_of (coded_by no_options.map o) lists no_options.rules) no_options.rules × HasRows (program_of (coded_by no_options.map o) lists) rows × IsCounted (coded_by no_options.map o) counts → n ≡ length rows → Passes bytes counts n
 passes_of bytes o lists counts rows n same is found so_many = record {
   object = o;
   is = is;
-  checkable = found.0;
-  unbroken = subst (λ (l : NameLists). IsUnbroken (program_of (coded_by no_options.map o) l) (allowances_of (coded_by no_options.map o) l) no_options.rules) same found.1;
+  checkable = subst (IsCheckable (coded_by no_options.map o)) same found.0;
+  unbroken = subst (λ (l : NameLists). IsUnbroken (program_of (coded_by no_options.map o) l) (allowances_of (coded_by no_options.map o) l no_options.rules) no_options.rules) same found.1;
   counted = found.3;
   all = rows;
   has_rows = subst (λ (l : NameLists). HasRows (program_of (coded_by no_options.map o) l) rows) same found.2;
@@ -47,11 +47,11 @@ passes_of bytes o lists counts rows n same is found so_many = record {
 }
 
 pub warned_of : (title bytes : List ℕ) (o : Elf) (lists : NameLists) (warnings told : List Warning) (out out' : Output) (x : Status)
-    → lists ≡ built_in → IsObject bytes o → IsCheckable (coded_by no_options.map o) × AreWarnings (program_of (coded_by no_options.map o) lists) (allowances_of (coded_by no_options.map o) lists) no_options.rules warnings → told ≡ warnings → Prints Warnings (warnings_text o told) out out' x
+    → lists ≡ built_in → IsObject bytes o → IsCheckable (coded_by no_options.map o) lists × AreWarnings (program_of (coded_by no_options.map o) lists) (allowances_of (coded_by no_options.map o) lists no_options.rules) no_options.rules warnings → told ≡ warnings → Prints Warnings (warnings_text o told) out out' x
     → SumsUp title bytes out out' x
 warned_of title bytes o lists warnings told out out' x same is found shown t =
     warned o warnings
-    (record { is = is; checkable = found.0; are = subst (λ (l : NameLists). AreWarnings (program_of (coded_by no_options.map o) l) (allowances_of (coded_by no_options.map o) l) no_options.rules warnings) same found.1 })
+    (record { is = is; checkable = subst (IsCheckable (coded_by no_options.map o)) same found.0; are = subst (λ (l : NameLists). AreWarnings (program_of (coded_by no_options.map o) l) (allowances_of (coded_by no_options.map o) l no_options.rules) no_options.rules warnings) same found.1 })
     (subst (λ (ws : List Warning). Prints Warnings (warnings_text o ws) out out' x) shown t)
 
 -- ---- bytes break no rule in one way
@@ -77,8 +77,8 @@ unprinted : (end : Status) (text : List ℕ) (out out' : Output) (x : Status) �
 unprinted end text out out' x (tells other t) = absurd (other refl)
 unprinted end text out out' NoMemory (silent is same) = nothing_printed end text out out' same
 
-passes_stop : OneOutcome → (s : CommandStop) (title bytes : List ℕ) (counts : CodeCounts) (rows : ℕ) (out out' : Output) (x : Status) → Passes bytes counts rows → IsUncheckableStop no_options.map bytes s → Concludes s out out' x → Prints Done (summary_line title counts rows) out out' x
-passes_stop one (stop.Refused told) title bytes counts rows out out' x p h t = absurd (checkable_unrefused one no_options.map bytes p.object told p.is p.checkable h)
+passes_stop : OneOutcome → (s : CommandStop) (title bytes : List ℕ) (counts : CodeCounts) (rows : ℕ) (out out' : Output) (x : Status) → Passes bytes counts rows → IsUncheckableStop no_options.map bytes built_in s → Concludes s out out' x → Prints Done (summary_line title counts rows) out out' x
+passes_stop one (stop.Refused told) title bytes counts rows out out' x p h t = absurd (checkable_unrefused one no_options.map bytes built_in p.object told p.is p.checkable h)
 passes_stop one stop.NoMemory title bytes counts rows out out' x p h t = unprinted Done _ out out' x t
 passes_stop one (stop.Usage usage) title bytes counts rows out out' x p h t = absurd h
 passes_stop one (stop.PartMissing part file) title bytes counts rows out out' x p h t = absurd h
@@ -112,8 +112,8 @@ refused_no_fault e = cc
 memory_fails : (end : Status) (out out' : Output) (x : Status) → Concludes stop.NoMemory out out' x → IsOrFails end x
 memory_fails end out out' x t = inr (inr (concluded_no_memory out out' x t))
 
-breaks_stop : OneOutcome → (s : CommandStop) (bytes : List ℕ) (out out' : Output) (x : Status) → BreaksRule bytes built_in no_options → IsUncheckableStop no_options.map bytes s → Concludes s out out' x → IsOrFails Warnings x
-breaks_stop one (stop.Refused told) bytes out out' x b h t = absurd (checkable_unrefused one no_options.map bytes b.object told b.is b.checkable h)
+breaks_stop : OneOutcome → (s : CommandStop) (bytes : List ℕ) (out out' : Output) (x : Status) → BreaksRule bytes built_in no_options → IsUncheckableStop no_options.map bytes built_in s → Concludes s out out' x → IsOrFails Warnings x
+breaks_stop one (stop.Refused told) bytes out out' x b h t = absurd (checkable_unrefused one no_options.map bytes built_in b.object told b.is b.checkable h)
 breaks_stop one stop.NoMemory bytes out out' x b h t = memory_fails Warnings out out' x t
 breaks_stop one (stop.Usage usage) bytes out out' x b h t = absurd h
 breaks_stop one (stop.PartMissing part file) bytes out out' x b h t = absurd h
@@ -132,7 +132,7 @@ refusal_ends : (told : Refusal) (out out' : Output) (x : Status) → Concludes (
 refusal_ends told out out' x (tells other t) = ends_or_fails Refused _ out out' x t refused_no_fault
 refusal_ends told out out' NoMemory (silent is same) = inr (inr refl)
 
-uncheckable_stop : (s : CommandStop) (bytes : List ℕ) (out out' : Output) (x : Status) → IsUncheckableStop no_options.map bytes s → Concludes s out out' x → IsOrFails Refused x
+uncheckable_stop : (s : CommandStop) (bytes : List ℕ) (out out' : Output) (x : Status) → IsUncheckableStop no_options.map bytes built_in s → Concludes s out out' x → IsOrFails Refused x
 uncheckable_stop (stop.Refused told) bytes out out' x h t = refusal_ends told out out' x t
 uncheckable_stop stop.NoMemory bytes out out' x h t = memory_fails Refused out out' x t
 uncheckable_stop (stop.Usage usage) bytes out out' x h t = absurd h
@@ -143,7 +143,7 @@ uncheckable_stop (stop.Missing file) bytes out out' x h t = absurd h
 uncheckable_stop (stop.TooLong file limit) bytes out out' x h t = absurd h
 uncheckable_stop (stop.FileFault file) bytes out out' x h t = absurd h
 
-pub sums_uncheckable : OneOutcome → (title bytes : List ℕ) (told : Refusal) (out out' : Output) (x : Status) → SumsUp title bytes out out' x → IsUncheckable no_options.map bytes told → IsOrFails Refused x
-sums_uncheckable one title bytes told out out' x (passed counts rows p t) u = absurd (checkable_unrefused one no_options.map bytes p.object told p.is p.checkable u)
-sums_uncheckable one title bytes told out out' x (warned o warnings w t) u = absurd (checkable_unrefused one no_options.map bytes o told w.is w.checkable u)
+pub sums_uncheckable : OneOutcome → (title bytes : List ℕ) (told : Refusal) (out out' : Output) (x : Status) → SumsUp title bytes out out' x → IsUncheckable no_options.map bytes built_in told → IsOrFails Refused x
+sums_uncheckable one title bytes told out out' x (passed counts rows p t) u = absurd (checkable_unrefused one no_options.map bytes built_in p.object told p.is p.checkable u)
+sums_uncheckable one title bytes told out out' x (warned o warnings w t) u = absurd (checkable_unrefused one no_options.map bytes built_in o told w.is w.checkable u)
 sums_uncheckable one title bytes told out out' x (stopped s h t) u = uncheckable_stop s bytes out out' x h t

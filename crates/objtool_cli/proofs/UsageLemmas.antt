@@ -32,7 +32,7 @@ use Rattle.code_commands.specs.Entry.{EndsEntry, IsUncheckable, StopsEntry}
 use Rattle.objtool_cli.specs.Cfi as framing
 use Rattle.objtool_cli.specs.Cfi.{EndsCfi, GetNoFrames, IsUnchecked, StopsCfi}
 use Rattle.elf_objects.specs.Elf.{Elf}
-use Rattle.ot_base.specs.NameLists.{NameLists}
+use Rattle.ot_base.specs.NameLists.{NameLists, built_in}
 use Rattle.x86_map.specs.declared.map.Map.{Map}
 use Rattle.command_base.proofs.MergeLaws.{merge_no_usage}
 use Rattle.command_base.proofs.FindLaws.{find_no_usage}
@@ -133,11 +133,11 @@ framed_other map input output names before after s (framing.unread h kept) = unr
 framed_other map input output names before after s (framing.without_names read may h kept) = names_other names before after s h
 framed_other map input output names before after s (framing.refused read lists is h kept) = λ usage same. no_frames_usage map read lists usage (subst (λ (t : CommandStop). GetNoFrames map read lists t) same h)
   where
-    no_unchecked_usage : (map : Map) (o : Elf) (usage : Usage) → IsUnchecked map o (stop.Usage usage) → ⊥
-    no_unchecked_usage map o usage h = elim h [ ]
+    no_unchecked_usage : (map : Map) (lists : NameLists) (o : Elf) (usage : Usage) → IsUnchecked map lists o (stop.Usage usage) → ⊥
+    no_unchecked_usage map lists o usage h = elim h [ ]
 
     no_frames_usage : (map : Map) (bytes : List ℕ) (lists : NameLists) (usage : Usage) → GetNoFrames map bytes lists (stop.Usage usage) → ⊥
-    no_frames_usage map bytes lists usage (framing.unchecked o is why) = no_unchecked_usage map o usage why
+    no_frames_usage map bytes lists usage (framing.unchecked o is why) = no_unchecked_usage map lists o usage why
 framed_other map input output names before after s (framing.unwritten o rows file may h others) = λ usage same. subst (λ (t : CommandStop). StopsAtWrite output before after t) same h
 
 cfi_no_usage : (map : Map) (input output : List ℕ) (names : Option (List ℕ)) (before after : Outside) (out out' : Output) (x : Status) → EndsCfi map input output names before after out out' x → x ≢ status.Usage
@@ -150,10 +150,10 @@ cfi_no_usage map input output names before after out out' x (framing.stopped s h
 entry_other : (map : Map) (input : List ℕ) (names : Option (List ℕ)) (before after : Outside) (s : CommandStop) → StopsEntry map input names before after s → IsOther s
 entry_other map input names before after s (entering.unread h) = unread_other _ input before after s h
 entry_other map input names before after s (entering.without_names read may h) = names_other names before after s h
-entry_other map input names before after s (entering.refused read lists is h) = λ usage same. no_checked_usage map read usage (subst (λ (t : CommandStop). IsUncheckable map read t) same h)
+entry_other map input names before after s (entering.refused read lists is h) = λ usage same. no_checked_usage map read lists usage (subst (λ (t : CommandStop). IsUncheckable map read lists t) same h)
   where
-    no_checked_usage : (map : Map) (bytes : List ℕ) (usage : Usage) → IsUncheckable map bytes (stop.Usage usage) → ⊥
-    no_checked_usage map bytes usage h = elim h [ ]
+    no_checked_usage : (map : Map) (bytes : List ℕ) (lists : NameLists) (usage : Usage) → IsUncheckable map bytes lists (stop.Usage usage) → ⊥
+    no_checked_usage map bytes lists usage h = elim h [ ]
 
 entry_no_usage : (map : Map) (options : EntryOptions) (input : List ℕ) (names : Option (List ℕ)) (before after : Outside) (out out' : Output) (x : Status) → EndsEntry map options input names before after out out' x → x ≢ status.Usage
 entry_no_usage map options input names before after out out' status.Done (entering.done o lists may unbroken keeps same) is = cc
@@ -165,7 +165,7 @@ entry_no_usage map options input names before after out out' x (entering.stopped
 pub sums_no_usage : (title bytes : List ℕ) (out out' : Output) (x : Status) → SumsUp title bytes out out' x → x ≢ status.Usage
 sums_no_usage title bytes out out' x (sums.passed counts rows p t) e = not_usage _ _ out out' x t done_not_usage e
 sums_no_usage title bytes out out' x (sums.warned o warnings w t) e = not_usage _ _ out out' x t warnings_not_usage e
-sums_no_usage title bytes out out' x (sums.stopped s h t) e = concluded_other s out out' x t (λ usage same. subst (λ (u : CommandStop). IsUncheckableStop no_options.map bytes u) same h) e
+sums_no_usage title bytes out out' x (sums.stopped s h t) e = concluded_other s out out' x t (λ usage same. subst (λ (u : CommandStop). IsUncheckableStop no_options.map bytes built_in u) same h) e
 
 used_as : (c : Command) (before after : Outside) (out out' : Output) (x : Status) → EndsAs c before after out out' x → x ≢ status.Usage
 used_as (check input output options names) before after out out' x h e = check_ended input output options names before after out out' x h e

@@ -41,30 +41,30 @@ use Rattle.command_base.specs.Inputs.{IsRead}
 
 -- ---- what the command makes of the bytes of IN
 
--- Why an object isn't checked, in this order: its code isn't read, or doesn't fit what the object says of it; it has a frame section
+-- Why an object isn't checked under the lists of names, in this order: its code isn't read, or doesn't fit what the object says of it; it has a frame section
 -- already, of which this is the first; it would have too many sections, and this is how many it has; or memory ran out.
-pub data IsUnchecked (map : Map) (o : Elf) : CommandStop → Type 0 where
-  unlinked : {told : LinkFaultText} → IsCodeFault (coded_by map o) (fault.Link told.fault) → IsWorded o told → IsUnchecked map o (Refused (Unlinked told))
-  unflowed : {told : FlowFaultText} → IsCodeFault (coded_by map o) (fault.Flow told.fault) → IsUnchecked map o (Refused (Unflowed told))
-  has_frames : {sec : ℕ} → IsInOrder (coded_by map o) → first_frame o ≡ Some sec → IsUnchecked map o (Refused (HasFrames sec))
+pub data IsUnchecked (map : Map) (lists : NameLists) (o : Elf) : CommandStop → Type 0 where
+  unlinked : {told : LinkFaultText} → IsCodeFault (coded_by map o) lists (fault.Link told.fault) → IsWorded o told → IsUnchecked map lists o (Refused (Unlinked told))
+  unflowed : {told : FlowFaultText} → IsCodeFault (coded_by map o) lists (fault.Flow told.fault) → IsUnchecked map lists o (Refused (Unflowed told))
+  has_frames : {sec : ℕ} → IsInOrder (coded_by map o) lists → first_frame o ≡ Some sec → IsUnchecked map lists o (Refused (HasFrames sec))
   too_many_sections :
       {count : ℕ}
-      → IsInOrder (coded_by map o)
+      → IsInOrder (coded_by map o) lists
       → first_frame o ≡ None
       → most_sections < length o.sections
       → count ≡ length o.sections
-      → IsUnchecked map o (Refused (TooMany Sections count))
-  out_of_memory : IsUnchecked map o NoMemory
+      → IsUnchecked map lists o (Refused (TooMany Sections count))
+  out_of_memory : IsUnchecked map lists o NoMemory
 
 -- Why bytes get no call frame information, in this order: they are no object, and this is their first fault; or an object that isn't
 -- checked; or one that breaks no rule, and would have too many symbols, and this is their number; or memory ran out.
 pub data GetNoFrames (map : Map) (bytes : List ℕ) (lists : NameLists) : CommandStop → Type 0 where
   malformed : {fault : ElfFault} → FirstFault bytes fault → GetNoFrames map bytes lists (Refused (Malformed fault))
-  unchecked : {stop : CommandStop} (o : Elf) → IsObject bytes o → IsUnchecked map o stop → GetNoFrames map bytes lists stop
+  unchecked : {stop : CommandStop} (o : Elf) → IsObject bytes o → IsUnchecked map lists o stop → GetNoFrames map bytes lists stop
   too_many_symbols :
       {count : ℕ} (o : Elf) (rows : List PlacedRow)
       → IsObject bytes o
-      → IsCheckable (coded_by map o)
+      → IsCheckable (coded_by map o) lists
       → IsUnbroken (program_under map lists o) (allowances_under map lists o) default_rules
       → HasRows (program_under map lists o) rows
       → MAX_SYMBOLS < symbols_needed o rows
@@ -80,14 +80,14 @@ pub record Gets (map : Map) (bytes : List ℕ) (lists : NameLists) (o : Elf) (ro
 -- They are this object, which is checked, and whose program breaks rules: these are all warnings, in their order.
 pub record HasWarnings (map : Map) (bytes : List ℕ) (lists : NameLists) (o : Elf) (warnings : List Warning) : Type 0 where
   pub is : IsObject bytes o
-  pub checkable : IsCheckable (coded_by map o)
+  pub checkable : IsCheckable (coded_by map o) lists
   pub are : AreWarnings (program_under map lists o) (allowances_under map lists o) default_rules warnings
 
 -- they are an object that is checked, and whose program breaks a rule
 pub record BreaksRule (map : Map) (bytes : List ℕ) (lists : NameLists) : Type 0 where
   pub object : Elf
   pub is : IsObject bytes object
-  pub checkable : IsCheckable (coded_by map object)
+  pub checkable : IsCheckable (coded_by map object) lists
   pub place : Place
   pub rule : ℕ
   pub a : ℤ

@@ -34,7 +34,7 @@ abbrev pub program_under : CheckOptions → NameLists → Elf → Program
 program_under options lists object = program_of (coded_by options.map object) lists
 
 abbrev pub allowances_under : CheckOptions → NameLists → Elf → Allowances
-allowances_under options lists object = allowances_of (coded_by options.map object) lists
+allowances_under options lists object = allowances_of (coded_by options.map object) lists options.rules
 
 -- An input of these bytes is accepted under these lists of names and these options, and OUT is to hold the bytes `table`: the
 -- bytes are an object that is checked, whose program, read by the opcode map that the options ask for, breaks no rule that they
@@ -42,7 +42,7 @@ allowances_under options lists object = allowances_of (coded_by options.map obje
 pub record Accepts (bytes : List ℕ) (lists : NameLists) (options : CheckOptions) (table : List ℕ) : Type 0 where
   pub object : Elf
   pub is : IsObject bytes object
-  pub checkable : IsCheckable (coded_by options.map object)
+  pub checkable : IsCheckable (coded_by options.map object) lists
   pub unbroken : IsUnbroken (program_under options lists object) (allowances_under options lists object) options.rules
   pub rows : List PlacedRow
   pub has_rows : HasRows (program_under options lists object) rows
@@ -52,54 +52,54 @@ pub record Accepts (bytes : List ℕ) (lists : NameLists) (options : CheckOption
 -- their order.
 pub record HasWarnings (bytes : List ℕ) (lists : NameLists) (options : CheckOptions) (o : Elf) (warnings : List Warning) : Type 0 where
   pub is : IsObject bytes o
-  pub checkable : IsCheckable (coded_by options.map o)
+  pub checkable : IsCheckable (coded_by options.map o) lists
   pub are : AreWarnings (program_under options lists o) (allowances_under options lists o) options.rules warnings
 
 -- they are an object that is checked, and whose program breaks a rule that is asked for
 pub record BreaksRule (bytes : List ℕ) (lists : NameLists) (options : CheckOptions) : Type 0 where
   pub object : Elf
   pub is : IsObject bytes object
-  pub checkable : IsCheckable (coded_by options.map object)
+  pub checkable : IsCheckable (coded_by options.map object) lists
   pub place : Place
   pub rule : ℕ
   pub a : ℤ
   pub b : ℤ
   pub broken : IsWarned (program_under options lists object) (allowances_under options lists object) options.rules place rule a b
 
--- the refusal tells why the object isn't checked
-abbrev pub TellsCheckFault : Coded → Refusal → Type 0
-TellsCheckFault o (Unlinked told) = IsCheckFault o (fault.Link told.fault) × IsWorded o.elf told
-TellsCheckFault o (Unflowed told) = IsCheckFault o (fault.Flow told.fault)
-TellsCheckFault o (HasOrc sec) = IsCheckFault o (fault.HasOrc sec)
-TellsCheckFault o (TooMany Sections count) = IsCheckFault o (fault.TooManySections count)
-TellsCheckFault o _ = ⊥
+-- the refusal tells why the object isn't checked, under lists of names
+abbrev pub TellsCheckFault : Coded → NameLists → Refusal → Type 0
+TellsCheckFault o lists (Unlinked told) = IsCheckFault o lists (fault.Link told.fault) × IsWorded o.elf told
+TellsCheckFault o lists (Unflowed told) = IsCheckFault o lists (fault.Flow told.fault)
+TellsCheckFault o lists (HasOrc sec) = IsCheckFault o lists (fault.HasOrc sec)
+TellsCheckFault o lists (TooMany Sections count) = IsCheckFault o lists (fault.TooManySections count)
+TellsCheckFault o lists _ = ⊥
 
 -- the stop tells this, or want of memory
-abbrev pub IsUnchecked : Coded → CommandStop → Type 0
-IsUnchecked o (Refused refusal) = TellsCheckFault o refusal
-IsUnchecked o NoMemory = Unit {0}
-IsUnchecked o _ = ⊥
+abbrev pub IsUnchecked : Coded → NameLists → CommandStop → Type 0
+IsUnchecked o lists (Refused refusal) = TellsCheckFault o lists refusal
+IsUnchecked o lists NoMemory = Unit {0}
+IsUnchecked o lists _ = ⊥
 
--- These bytes can't be checked by this opcode map, and this is why: they are no object, and this is their first fault; or an
+-- These bytes can't be checked by this opcode map, under these lists of names, and this is why: they are no object, and this is their first fault; or an
 -- object that isn't checked.
-pub data IsUncheckable (map : Map) (bytes : List ℕ) : Refusal → Type 0 where
-  malformed : {fault : ElfFault} → FirstFault bytes fault → IsUncheckable map bytes (Malformed fault)
-  unchecked : {refusal : Refusal} (o : Elf) → IsObject bytes o → TellsCheckFault (coded_by map o) refusal → IsUncheckable map bytes refusal
+pub data IsUncheckable (map : Map) (bytes : List ℕ) (lists : NameLists) : Refusal → Type 0 where
+  malformed : {fault : ElfFault} → FirstFault bytes fault → IsUncheckable map bytes lists (Malformed fault)
+  unchecked : {refusal : Refusal} (o : Elf) → IsObject bytes o → TellsCheckFault (coded_by map o) lists refusal → IsUncheckable map bytes lists refusal
 
 -- the stop tells this, or want of memory
-abbrev pub IsUncheckableStop : Map → List ℕ → CommandStop → Type 0
-IsUncheckableStop map bytes (Refused refusal) = IsUncheckable map bytes refusal
-IsUncheckableStop map bytes NoMemory = Unit {0}
-IsUncheckableStop map bytes _ = ⊥
+abbrev pub IsUncheckableStop : Map → List ℕ → NameLists → CommandStop → Type 0
+IsUncheckableStop map bytes lists (Refused refusal) = IsUncheckable map bytes lists refusal
+IsUncheckableStop map bytes lists NoMemory = Unit {0}
+IsUncheckableStop map bytes lists _ = ⊥
 
 -- An input of these bytes is refused so, in this order: they can't be checked, and this is why; or they are an object that
 -- breaks no rule, and whose tables need too many symbols.
 pub data Refuses (bytes : List ℕ) (lists : NameLists) (options : CheckOptions) : Refusal → Type 0 where
-  uncheckable : {refusal : Refusal} → IsUncheckable options.map bytes refusal → Refuses bytes lists options refusal
+  uncheckable : {refusal : Refusal} → IsUncheckable options.map bytes lists refusal → Refuses bytes lists options refusal
   crowded :
       {count : ℕ} (o : Elf) (rows : List PlacedRow)
       → IsObject bytes o
-      → IsCheckable (coded_by options.map o)
+      → IsCheckable (coded_by options.map o) lists
       → IsUnbroken (program_under options lists o) (allowances_under options lists o) options.rules
       → HasRows (program_under options lists o) rows
       → MAX_SYMBOLS < symbols_needed o rows

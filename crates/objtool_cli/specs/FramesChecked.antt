@@ -11,5 +11,5 @@ use Rattle.objtool_cli.specs.FramesOrder.{IsCheckable, allowances_under, default
 -- The object is checked. Its program breaks no rule, and the rows are the program's; or it breaks some, and the warnings are exactly
 -- these.
 abbrev pub IsChecked : Map → Elf → NameLists → ObjectVerdict → Type 0
-IsChecked map o lists (Accepted rows counts) = IsCheckable (coded_by map o) × IsUnbroken (program_under map lists o) (allowances_under map lists o) default_rules × HasRows (program_under map lists o) rows.items
-IsChecked map o lists (Broken warnings) = IsCheckable (coded_by map o) × AreWarnings (program_under map lists o) (allowances_under map lists o) default_rules warnings.items
+IsChecked map o lists (Accepted rows counts) = IsCheckable (coded_by map o) lists × IsUnbroken (program_under map lists o) (allowances_under map lists o) default_rules × HasRows (program_under map lists o) rows.items
+IsChecked map o lists (Broken warnings) = IsCheckable (coded_by map o) lists × AreWarnings (program_under map lists o) (allowances_under map lists o) default_rules warnings.items

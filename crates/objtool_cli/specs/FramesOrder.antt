@@ -23,6 +23,8 @@ default_rules = record {
   rethunk = false;
   uaccess = false;
   unreachable = true;
+  link = false;
+  «module» = false;
 }
 
 -- the program of an object, read by an opcode map, under lists of names; and what the object allows code of it
@@ -30,22 +32,22 @@ abbrev pub program_under : Map → NameLists → Elf → Program
 program_under map lists object = program_of (coded_by map object) lists
 
 abbrev pub allowances_under : Map → NameLists → Elf → Allowances
-allowances_under map lists object = allowances_of (coded_by map object) lists
+allowances_under map lists object = allowances_of (coded_by map object) lists default_rules
 
 -- so many sections an object may have, so that the two frame sections still find room
 abbrev pub most_sections : ℕ
 most_sections = MAX_SECTIONS - 2
 
--- The object is checked: it is in order, has no frame section yet, and room for two.
-pub record IsCheckable (o : Coded) : Type 0 where
-  pub in_order : IsInOrder o
+-- The object is checked under the lists of names: it is in order, has no frame section yet, and room for two.
+pub record IsCheckable (o : Coded) (lists : NameLists) : Type 0 where
+  pub in_order : IsInOrder o lists
   pub new : first_frame o.elf ≡ None
   pub few : length o.elf.sections ≤ most_sections
 
 -- The object gets the call frame information of these rows: it is checked, its program breaks no rule, these are the program's rows,
 -- and the object has room for the section symbols that they need.
 pub record GetsFrames (map : Map) (lists : NameLists) (o : Elf) (rows : List PlacedRow) : Type 0 where
-  pub checkable : IsCheckable (coded_by map o)
+  pub checkable : IsCheckable (coded_by map o) lists
   pub unbroken : IsUnbroken (program_under map lists o) (allowances_under map lists o) default_rules
   pub has_rows : HasRows (program_under map lists o) rows
   pub few_symbols : symbols_needed o rows ≤ MAX_SYMBOLS

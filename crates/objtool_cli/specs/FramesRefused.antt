@@ -10,4 +10,4 @@ use Rattle.objtool_cli.specs.Cfi.{GetNoFrames}
 -- `cfi IN OUT`: IN is read; then the names file, where one is given, and its lines; then the bytes of IN are parsed, their code is read
 -- and checked, and the call frame information is made of what breaks no rule.
 abbrev pub RefusesCfi : Map → List ℕ → Option (List ℕ) → Content → CommandStop → Type 0
-RefusesCfi map input names held = RefusesInput (λ read lists stop. GetNoFrames map read lists stop) input names held
+RefusesCfi map input names held = RefusesInput (GetNoFrames map) input names held

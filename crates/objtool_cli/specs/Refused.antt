@@ -1,6 +1,7 @@
 -- Which commands are refused on files that hold this, and why: what the first step finds that fails, in the order of the steps.
 -- Faults of files and of the output, and want of memory, are no refusals.
 use Rattle.std.specs.Prelude.{◌≡◌, ◌≢◌, ℕ, List, Option, Ok}
+use Rattle.ot_base.specs.NameLists.{built_in}
 use Rattle.ot_files.specs.Content.{Content, reading}
 use Rattle.cli_words.specs.Grammar.{Command, cfa, cfi, check, demo, dump, entry, explain, find, help, list, merge, show, sites, unwind, version}
 use Rattle.cli_words.specs.declared.options.CheckOptions.{CheckOptions}
@@ -58,7 +59,7 @@ pub data RefusesUnwind (file image : List ℕ) (held : Content) : CommandStop �
 
 -- `demo N`: the object that it makes can't be checked
 abbrev pub RefusesDemo : ℕ → CommandStop → Type 0
-RefusesDemo n (Refused refusal) = IsUncheckable no_options.map (demo_bytes n) refusal
+RefusesDemo n (Refused refusal) = IsUncheckable no_options.map (demo_bytes n) built_in refusal
 RefusesDemo n _ = ⊥
 
 -- A command is refused on files that hold this, and this is why. `explain`, `--help` and `--version` never are.

@@ -45,7 +45,7 @@ summary_line title counts rows = title ++ codes ": " ++ numbers_text counts rows
 pub record Passes (bytes : List ℕ) (counts : CodeCounts) (rows : ℕ) : Type 0 where
   pub object : Elf
   pub is : IsObject bytes object
-  pub checkable : IsCheckable (coded_by no_options.map object)
+  pub checkable : IsCheckable (coded_by no_options.map object) built_in
   pub unbroken : IsUnbroken (program_under no_options built_in object) (allowances_under no_options built_in object) no_options.rules
   pub counted : IsCounted (coded_by no_options.map object) counts
   pub all : List PlacedRow
@@ -61,7 +61,7 @@ pub data SumsUp (title bytes : List ℕ) (out out' : Output) : Status → Type 0
       → HasWarnings bytes built_in no_options o warnings
       → Prints status.Warnings (warnings_text o warnings) out out' s
       → SumsUp title bytes out out' s
-  stopped : {s : Status} (stop : CommandStop) → IsUncheckableStop no_options.map bytes stop → Concludes stop out out' s → SumsUp title bytes out out' s
+  stopped : {s : Status} (stop : CommandStop) → IsUncheckableStop no_options.map bytes built_in stop → Concludes stop out out' s → SumsUp title bytes out out' s
 
 -- these bytes break rules, these are all warnings, and exactly their lines were printed
 pub record PrintsWarningsOf (bytes : List ℕ) (before after : Option (List ℕ)) : Type 0 where
@@ -80,7 +80,7 @@ pub record PrintsSummary (title bytes : List ℕ) (before after : Option (List �
 -- these bytes can't be checked, and exactly the line that says why was printed
 pub record PrintsRefusal (bytes : List ℕ) (before after : Option (List ℕ)) : Type 0 where
   pub refusal : Refusal
-  pub uncheckable : IsUncheckable no_options.map bytes refusal
+  pub uncheckable : IsUncheckable no_options.map bytes built_in refusal
   pub printed : after ≡ appending before (line_of (stop.Refused refusal))
 
 -- what may be answered in place of a status: a fault of the output, or want of memory

@@ -30,4 +30,4 @@ pub data IsText (input : List ℕ) (options : CheckOptions) (lists : NameLists) 
 -- Such a text of them was to be printed; or the code of the object isn't read again, which is told. Want of memory says nothing of it.
 pub data TellsWarnings (input : List ℕ) (options : CheckOptions) (lists : NameLists) (o : Elf) (warnings : List Warning) (before after : Output) : Status → Type 0 where
   printed : {s : Status} (text : List ℕ) → IsText input options lists o warnings text → Prints status.Warnings text before after s → TellsWarnings input options lists o warnings before after s
-  unread : {s : Status} (stop : CommandStop) → IsUnchecked (coded_by options.map o) stop → Concludes stop before after s → TellsWarnings input options lists o warnings before after s
+  unread : {s : Status} (stop : CommandStop) → IsUnchecked (coded_by options.map o) lists stop → Concludes stop before after s → TellsWarnings input options lists o warnings before after s

@@ -1,6 +1,7 @@
 //! The check of the bytes of an input.
 
 ghost use Rattle.std.specs.Prelude.{◌≡◌, ◌<◌, ◌≤◌, Ok, length, option_map};
+ghost use Rattle.ot_base.specs.NameLists.{NameLists};
 ghost use Rattle.elf_objects.specs.Object.{IsObject};
 ghost use Rattle.command_base.specs.Printing.{IsOutputFault};
 ghost use Rattle.flow_defs.specs.Coded.{coded_by};
@@ -22,8 +23,8 @@ use std::alloc::Global;
 
 /// Why a command stops whose object isn't checked.
 pub(crate) fn check_stop<'a>(object: &Object<'a>, fault: CheckFault) -> CommandStop<'a>
-    requires { (map : Map) × IsCheckFault (coded_by map object.now) fault }
-    ensures { (map : Map) → IsCheckFault (coded_by map object.now) fault → IsUnchecked (coded_by map object.now) result }
+    requires { (map : Map) × (lists : NameLists) × IsCheckFault (coded_by map object.now) lists fault }
+    ensures { (map : Map) (lists : NameLists) → IsCheckFault (coded_by map object.now) lists fault → IsUnchecked (coded_by map object.now) lists result }
 {
     match fault {
         CheckFault::Link(fault) => link_stop(object, fault),

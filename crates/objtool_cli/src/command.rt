@@ -468,12 +468,12 @@ pub fn run<F: Files, S: Sink>(alloc: Global, words: &[String], files: &mut F, ou
     ensures entry_accepts { (input : List ℕ) (rules : RulesValue) (opcodes : Map) (names : Option (List ℕ)) (read : List ℕ) (object : Elf) (lists : NameLists) (held : Content)
         → meaning (map string_bytes words.now) ≡ Ok (entry input rules opcodes names)
         → F.content files.old ≡ Some held → reading held input MAX_FILE_BYTES ≡ Ok read → HasNames (Some held) names lists
-        → IsObject read object → IsInOrder (coded_by opcodes object)
+        → IsObject read object → IsInOrder (coded_by opcodes object) lists
         → IsUnbroken (coded_by opcodes object) lists (entry_options rules) → IsAnswered result }
     ensures entry_warns { (input : List ℕ) (rules : RulesValue) (opcodes : Map) (names : Option (List ℕ)) (read : List ℕ) (object : Elf) (lists : NameLists) (held : Content)
         → meaning (map string_bytes words.now) ≡ Ok (entry input rules opcodes names)
         → F.content files.old ≡ Some held → reading held input MAX_FILE_BYTES ≡ Ok read → HasNames (Some held) names lists
-        → IsObject read object → IsInOrder (coded_by opcodes object)
+        → IsObject read object → IsInOrder (coded_by opcodes object) lists
         → BreaksEntryRule (coded_by opcodes object) lists (entry_options rules) → IsWarnedOrFails result }
 
     // Where `show` is done, IN is read as an object whose code is in order, with code of the functions that are asked
@@ -484,7 +484,7 @@ pub fn run<F: Files, S: Sink>(alloc: Global, words: &[String], files: &mut F, ou
     ensures show_accepts { (input : List ℕ) (function : Option (List ℕ)) (opcodes : Map) (names : Option (List ℕ)) (read : List ℕ) (object : Elf) (lists : NameLists) (held : Content)
         → meaning (map string_bytes words.now) ≡ Ok (show input function opcodes names)
         → F.content files.old ≡ Some held → reading held input MAX_FILE_BYTES ≡ Ok read → HasNames (Some held) names lists
-        → IsObject read object → IsInOrder (coded_by opcodes object)
+        → IsObject read object → IsInOrder (coded_by opcodes object) lists
         → HasCode object (program_of (coded_by opcodes object) lists) function → IsAnswered result }
 
     // Nothing is told where a command is done that writes a file, nor where `entry` is.

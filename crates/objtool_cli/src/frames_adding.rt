@@ -48,7 +48,7 @@ fn add<F: Files, S: Sink>(
 ) -> Status
     requires read { IsRead (F.content files.old) asked.input.now (option_map (λ file. file.now) asked.names) bytes.now lists.now }
     requires object { IsObject bytes.now object.now }
-    requires checkable { IsCheckable (coded_by asked.map object.now) }
+    requires checkable { IsCheckable (coded_by asked.map object.now) lists.now }
     requires unbroken { IsUnbroken (program_under asked.map lists.now object.now) (allowances_under asked.map lists.now object.now) default_rules }
     requires rows { HasRows (program_under asked.map lists.now object.now) rows.now }
     requires framed { CanBeFramed object.now rows.now }

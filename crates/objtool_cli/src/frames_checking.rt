@@ -1,6 +1,7 @@
 //! The check of an object that is to get call frame information.
 
 ghost use Rattle.std.specs.Prelude.{◌≡◌, ◌≤◌, IfErr, IfOk, length};
+ghost use Rattle.ot_base.specs.NameLists.{NameLists};
 ghost use Rattle.elf_objects.specs.declared.TheConstants.{MAX_FILE_BYTES};
 ghost use Rattle.flow_defs.specs.Coded.{coded_by};
 ghost use Rattle.x86_map.specs.declared.map.Map.{Map as MapValue};
@@ -26,12 +27,14 @@ const DEFAULT_RULES: Options = Options {
     rethunk: false,
     uaccess: false,
     unreachable: true,
+    link: false,
+    module: false,
 };
 
 /// Why a command stops whose object's code isn't read.
 fn code_stop<'a>(object: &Object<'a>, fault: CodeFault) -> CommandStop<'a>
-    requires { (map : MapValue) × IsCodeFault (coded_by map object.now) fault }
-    ensures { (map : MapValue) → IsCodeFault (coded_by map object.now) fault → IsUnchecked map object.now result }
+    requires { (map : MapValue) × (lists : NameLists) × IsCodeFault (coded_by map object.now) lists fault }
+    ensures { (map : MapValue) (lists : NameLists) → IsCodeFault (coded_by map object.now) lists fault → IsUnchecked map lists object.now result }
 {
     match fault {
         CodeFault::Link(fault) => link_stop(object, fault),
@@ -53,7 +56,7 @@ pub(crate) fn check_object<'a>(
     // The rows can be told by call frame information, and unwind the program.
     ensures rows { IfOk result (λ verdict. OnAccepted verdict (CanBeFramed object.now)) }
     ensures unwinds { IfOk result (λ verdict. OnAccepted verdict (RowsUnwind (coded_by map object.now) lists.now)) }
-    ensures stopped { IfErr result (IsUnchecked map object.now) }
+    ensures stopped { IfErr result (IsUnchecked map lists.now object.now) }
 {
     let code = match read_code(alloc, map, object, lists, DEFAULT_RULES) {
         Ok(code) => code,

@@ -1,6 +1,7 @@
 //! Whether an object has room for call frame information.
 
 ghost use Rattle.std.specs.Prelude.{◌≡◌, ◌≤◌, All, IfErr, None, OnOk, length};
+ghost use Rattle.ot_base.specs.NameLists.{NameLists};
 ghost use Rattle.flow_defs.specs.Coded.{coded_by};
 ghost use Rattle.x86_map.specs.declared.map.Map.{Map};
 ghost use Rattle.eh_frame.specs.FrameOutput.{IsOther, first_frame};
@@ -18,7 +19,7 @@ pub(crate) fn check_room<'a>(object: &Object<'_>) -> Result<(), CommandStop<'a>>
     ensures new { OnOk result (first_frame object.now ≡ None) }
     ensures others { OnOk result (All IsOther object.now.sections) }
     ensures few { OnOk result (length object.now.sections ≤ most_sections) }
-    ensures stopped { (map : Map) → IsInOrder (coded_by map object.now) → IfErr result (IsUnchecked map object.now) }
+    ensures stopped { (map : Map) (lists : NameLists) → IsInOrder (coded_by map object.now) lists → IfErr result (IsUnchecked map lists object.now) }
 {
     if let Some(sec) = first_frame_section(object) {
         return Err(CommandStop::Refused(Refusal::HasFrames { sec }));

@@ -31,6 +31,8 @@ const NO_OPTIONS: CheckOptions = CheckOptions {
         rethunk: false,
         uaccess: false,
         unreachable: true,
+        link: false,
+        module: false,
     },
     backtrace: false,
 };
@@ -159,7 +161,7 @@ pub fn summary<S: Sink>(alloc: Global, title: &str, bytes: &[u8], out: &mut S) -
 
     // The same of bytes that can't be checked, and of the line that says why.
     ensures refused { result ≡ Status.Refused → PrintsRefusal bytes.now (S.written out.old) (S.written out.new) }
-    ensures refuses { (refusal : Refusal) → IsUncheckable no_options.map bytes.now refusal → IsOrFails status.Refused result }
+    ensures refuses { (refusal : Refusal) → IsUncheckable no_options.map bytes.now built_in refusal → IsOrFails status.Refused result }
 
     // There are no other answers; a fault of the output is answered only where its count rose, and always where it did, and no
     // count falls.

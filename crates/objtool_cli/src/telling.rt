@@ -29,7 +29,7 @@ fn read_again(
 ) -> Result<ReadCode, CheckFault>
     requires { length object.now.bytes ≤ MAX_FILE_BYTES }
     ensures ok { IfOk result (IsCodeOf (coded_by options.map object.now) lists.now options.rules) }
-    ensures err { IfErr result (IsCheckFault (coded_by options.map object.now)) }
+    ensures err { IfErr result (IsCheckFault (coded_by options.map object.now) lists.now) }
 {
     let code = read_code(alloc, options.map, object, lists, options.rules)?;
     Ok(code)
@@ -46,7 +46,7 @@ fn tell_backtraces<S: Sink>(
 ) -> Status
     requires few { length object.now.bytes ≤ MAX_FILE_BYTES }
     requires backtrace { asked.options.backtrace ≡ true }
-    requires checkable { IsCheckable (coded_by asked.options.map object.now) }
+    requires checkable { IsCheckable (coded_by asked.options.map object.now) lists.now }
     requires warned { AreWarnings (program_under asked.options lists.now object.now) (allowances_under asked.options lists.now object.now) asked.options.rules warnings.now }
     ensures told { TellsWarnings asked.entry.input.now asked.entry.options lists.now object.now warnings.now
         (record { written = S.written out.old; faults = S.faults out.old })
@@ -85,7 +85,7 @@ pub(crate) fn tell_warnings<S: Sink>(
     out: &mut S,
 ) -> Status
     requires few { length object.now.bytes ≤ MAX_FILE_BYTES }
-    requires checkable { IsCheckable (coded_by asked.options.map object.now) }
+    requires checkable { IsCheckable (coded_by asked.options.map object.now) lists.now }
     requires warned { AreWarnings (program_under asked.options lists.now object.now) (allowances_under asked.options lists.now object.now) asked.options.rules warnings.now }
     ensures told { TellsWarnings asked.entry.input.now asked.entry.options lists.now object.now warnings.now
         (record { written = S.written out.old; faults = S.faults out.old })

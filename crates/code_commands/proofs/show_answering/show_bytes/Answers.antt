@@ -10,5 +10,5 @@ returns-in-Ok-clause-ends g c before after read = c.show_object.ensures.ends bef
 pub returns-in-Err-clause-ends : goal.returns-in-Err-clause-ends
 returns-in-Err-clause-ends g c before after read =
     stopped c.parse_stop.result
-    (unchecked (refused c.args.bytes.now c.args.lists.now read (subst (IsUncheckable c.args.asked.map c.args.bytes.now) (sym c.parse_stop.ensures) (no_object c.args.asked.map c.args.bytes.now c.in-Err.fault c.in-Err.ensures.err))))
+    (unchecked (refused c.args.bytes.now c.args.lists.now read (subst (IsUncheckable c.args.asked.map c.args.bytes.now c.args.lists.now) (sym c.parse_stop.ensures) (no_object c.args.asked.map c.args.bytes.now c.args.lists.now c.in-Err.fault c.in-Err.ensures.err))))
     c.conclude.ensures.concluded

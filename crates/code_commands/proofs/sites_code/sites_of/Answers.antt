@@ -18,10 +18,10 @@ returns-clause-placed c =
 
 pub returns-clause-right : goal.returns-clause-right
 returns-clause-right c =
-    subst (λ (x : Coded). OnOk c.sites_of_linked.result (IsInOrder x)) c.in_ok-linked.ensures.ok c.sites_of_linked.ensures.right
+    subst (λ (x : Coded). OnOk c.sites_of_linked.result (IsInOrder x c.args.names.now)) c.in_ok-linked.ensures.ok c.sites_of_linked.ensures.right
 
 pub returns-clause-stopped : goal.returns-clause-stopped
 returns-clause-stopped c bytes is =
     let same = c.in_ok-linked.ensures.ok in
-    subst (λ (x : Coded). IfErr c.sites_of_linked.result (GetNoSites x.map bytes)) same
+    subst (λ (x : Coded). IfErr c.sites_of_linked.result (GetNoSites x.map bytes c.args.names.now)) same
     (c.sites_of_linked.ensures.stopped bytes (subst (λ (x : Coded). IsObject bytes x.elf) (sym same) is))

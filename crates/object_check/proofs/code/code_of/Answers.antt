@@ -5,7 +5,7 @@ use Rattle.object_check.proofs.code.code_of.Goals as goal
 
 pub returns-in_err-graph-clause-err : goal.returns-in_err-graph-clause-err
 returns-in_err-graph-clause-err c =
-    let here = flow_told c.args.linked.now c.in_err-graph.field-0.0 c.requires.linked c.in_err-graph.ensures.err in
+    let here = flow_told c.args.linked.now c.args.lists.now c.in_err-graph.field-0.0 c.requires.linked c.in_err-graph.ensures.err in
     let p = err_from_is_err_and c.from_residual.result c.from_residual.ensures.1 in
     rw (p.1, p.2) here
 

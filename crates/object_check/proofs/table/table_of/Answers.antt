@@ -9,7 +9,7 @@ use Rattle.object_check.proofs.table.table_of.Goals as goal
 
 pub returns-clause-points : goal.returns-clause-points
 returns-clause-points c =
-    subst (λ (e : Coded). IfOk c.table_of_places.result (λ table. Allows (allowances_of e c.args.lists.now) table (length (points_of_object e)))) c.in_ok-places.ensures c.table_of_places.ensures
+    subst (λ (e : Coded). IfOk c.table_of_places.result (λ table. Allows (allowances_of e c.args.lists.now c.args.options) table (length (points_of_object e)))) c.in_ok-places.ensures c.table_of_places.ensures
 
 pub returns-clause-program : goal.returns-clause-program
 unfolding program_of returning_graph graph_of

@@ -8,8 +8,9 @@ use Rattle.object_check.proofs.table.table_of_places.Goals as goal
 
 pub returns : goal.returns
 returns c =
-    allows c.args.places.now c.args.lists.now _
+    allows c.args.places.now c.args.lists.now c.args.options _
     c.in_ok-list_safe_branches.ensures
+    c.in_ok-list_before_user_space.ensures
     c.in_ok-list_lacking_smap.ensures
     (subst (λ (e : Elf). AreFlags (is_safe_name e c.args.lists.now) (length e.symbols) c.in_ok-list_safe_names.field-0.items) (c.object.ensures ∙ ap (λ (o : Coded). o.elf) c.linked.ensures) c.in_ok-list_safe_names.ensures)
     c.access_safe.ensures

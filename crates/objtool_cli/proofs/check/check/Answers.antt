@@ -7,5 +7,5 @@ use Rattle.objtool_cli.proofs.check.check.Goals as goal
 pub returns-in-Err-clause-ends : goal.returns-in-Err-clause-ends
 returns-in-Err-clause-ends g c =
     stopped c.parse_stop.result
-    (refused c.args.bytes.now c.args.lists.now c.requires.read (uncheckable_refusal c.args.bytes.now c.args.lists.now c.args.asked.options c.parse_stop.result (subst (IsUncheckableStop c.args.asked.options.map c.args.bytes.now) (sym c.parse_stop.ensures) (parse_uncheckable c.args.asked.options.map c.args.bytes.now c.in-Err.fault c.in-Err.ensures.err))) refl)
+    (refused c.args.bytes.now c.args.lists.now c.requires.read (uncheckable_refusal c.args.bytes.now c.args.lists.now c.args.asked.options c.parse_stop.result (subst (IsUncheckableStop c.args.asked.options.map c.args.bytes.now c.args.lists.now) (sym c.parse_stop.ensures) (parse_uncheckable c.args.asked.options.map c.args.bytes.now c.args.lists.now c.in-Err.fault c.in-Err.ensures.err))) refl)
     c.conclude.ensures.concluded

@@ -16,7 +16,7 @@ returns-in-Ok-Broken-clause-ends g c =
 pub returns-in-Err-clause-ends : goal.returns-in-Err-clause-ends
 returns-in-Err-clause-ends g c =
     stopped c.check_stop.result
-    (refused c.args.bytes.now c.args.lists.now c.requires.read (uncheckable_refusal c.args.bytes.now c.args.lists.now c.args.asked.options c.check_stop.result (check_uncheckable c.args.asked.options.map c.args.bytes.now c.args.object.now c.check_stop.result c.requires.object (c.check_stop.ensures c.args.asked.options.map c.in-Err.ensures.err))) refl)
+    (refused c.args.bytes.now c.args.lists.now c.requires.read (uncheckable_refusal c.args.bytes.now c.args.lists.now c.args.asked.options c.check_stop.result (check_uncheckable c.args.asked.options.map c.args.bytes.now c.args.lists.now c.args.object.now c.check_stop.result c.requires.object (c.check_stop.ensures c.args.asked.options.map c.args.lists.now c.in-Err.ensures.err))) refl)
     c.conclude.ensures.concluded
 
 pub returns-in-Ok-clause-ends : goal.returns-in-Ok-clause-ends
@@ -36,7 +36,7 @@ returns-clause-ends g c =
     c.conclude-in-Err-write_table.ensures.concluded
 
 pub check_stop-requires : goal.check_stop-requires
-check_stop-requires g c = (c.args.asked.options.map, c.in-Err.ensures.err)
+check_stop-requires g c = (c.args.asked.options.map, c.args.lists.now, c.in-Err.ensures.err)
 
 pub tell_warnings-requires-clause-checkable : goal.tell_warnings-requires-clause-checkable
 tell_warnings-requires-clause-checkable g c = (subst (IsOutcome (coded_by c.args.asked.options.map c.args.object.now) c.args.lists.now c.args.asked.options.rules) c.in-Ok-Broken.field-0-is c.in-Ok-Broken.ensures.ok).0

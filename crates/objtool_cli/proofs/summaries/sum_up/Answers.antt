@@ -1,4 +1,5 @@
 use Rattle.std.proofs.Common.{◌∙◌, refl, sym, subst}
+use Rattle.ot_base.specs.NameLists.{NameLists, built_in}
 use Rattle.command_base.specs.declared.stop.CommandStop.TheVariants as stop
 use Rattle.command_base.specs.Printing.{silent}
 use Rattle.flow_defs.specs.Coded.{coded_by}
@@ -15,7 +16,7 @@ returns-in_default-clause-ends g c = stopped stop.NoMemory tt (silent refl refl)
 pub returns-in-Err-clause-ends : goal.returns-in-Err-clause-ends
 returns-in-Err-clause-ends g c =
     stopped c.parse_stop.result
-    (subst (IsUncheckableStop no_options.map c.args.bytes.now) (sym c.parse_stop.ensures) (parse_uncheckable no_options.map c.args.bytes.now c.in-Err.fault c.in-Err.ensures.err))
+    (subst (IsUncheckableStop no_options.map c.args.bytes.now built_in) (sym c.parse_stop.ensures) (parse_uncheckable no_options.map c.args.bytes.now built_in c.in-Err.fault c.in-Err.ensures.err))
     c.conclude.ensures.concluded
 
 pub returns-in-Ok-Accepted-clause-ends : goal.returns-in-Ok-Accepted-clause-ends
@@ -33,8 +34,9 @@ returns-in-Ok-Broken-clause-ends g c =
 pub returns-clause-ends : goal.returns-clause-ends
 returns-clause-ends g c =
     stopped c.check_stop.result
-    (check_uncheckable no_options.map c.args.bytes.now c.in-Ok-parse.object c.check_stop.result c.in-Ok-parse.ensures.ok (c.check_stop.ensures no_options.map c.in-Err-check_object.ensures.err))
+    (subst (λ (lists : NameLists). IsUncheckableStop no_options.map c.args.bytes.now lists c.check_stop.result) c.in-Ok.ensures
+    (check_uncheckable no_options.map c.args.bytes.now c.in-Ok.lists c.in-Ok-parse.object c.check_stop.result c.in-Ok-parse.ensures.ok (c.check_stop.ensures no_options.map c.in-Ok.lists c.in-Err-check_object.ensures.err)))
     c.conclude-in-Err-check_object.ensures.concluded
 
 pub check_stop-requires : goal.check_stop-requires
-check_stop-requires g c = (no_options.map, c.in-Err-check_object.ensures.err)
+check_stop-requires g c = (no_options.map, c.in-Ok.lists, c.in-Err-check_object.ensures.err)

@@ -9,10 +9,10 @@ use Rattle.objtool_cli.proofs.BacktraceLemmas.{backtraced, warned_of}
 use Rattle.objtool_cli.proofs.telling.tell_backtraces.Goals as goal
 
 pub check_stop-requires : goal.check_stop-requires
-check_stop-requires g c = (c.args.asked.options.map, c.in-Err.ensures.err)
+check_stop-requires g c = (c.args.asked.options.map, c.args.lists.now, c.in-Err.ensures.err)
 
 pub returns-in-Err-clause-told : goal.returns-in-Err-clause-told
-returns-in-Err-clause-told g c = unread c.check_stop.result (c.check_stop.ensures c.args.asked.options.map c.in-Err.ensures.err) c.conclude.ensures.concluded
+returns-in-Err-clause-told g c = unread c.check_stop.result (c.check_stop.ensures c.args.asked.options.map c.args.lists.now c.in-Err.ensures.err) c.conclude.ensures.concluded
 
 pub print_backtraces-requires-clause-points : goal.print_backtraces-requires-clause-points
 print_backtraces-requires-clause-points g c = c.in-Ok-states_of.ensures.points ∙ sym (ap (λ (ps : GraphParts). length ps.points.items) c.graph.ensures)
