@@ -1,8 +1,7 @@
 -- What keeps an object's program from being checked: faults in order, of which the first is told.
-use Rattle.std.specs.Prelude.{◌≡◌, ℕ, ◌==◌, ◌&&◌, ◌||◌, not, Bool, true, false, List, [], ◌∷◌, ◌++◌, map, filter, filter_map, flat_map, length, slice_get, Option, Some, None, option_map, is_some, is_none, if◌then◌else◌}
-use Rattle.std.specs.List.{range_with_len, enumerate_from}
+use Rattle.std.specs.Prelude.{◌≡◌, ℕ, ◌==◌, ◌||◌, not, Bool, true, false, List, ◌++◌, filter_map, slice_get, Option, Some, None, option_map, is_none, if◌then◌else◌}
+use Rattle.std.specs.List.{enumerate_from}
 use Rattle.ot_base.specs.declared.place.Place.{Place}
-use Rattle.ot_base.specs.Places.{same_place}
 use Rattle.operation_defs.specs.declared.insn.Insn.{Insn}
 use Rattle.operation_defs.specs.declared.op.Op.{Op}
 use Rattle.operation_defs.specs.declared.op.Op.TheVariants.{Nop, Call, Jmp}
@@ -10,7 +9,6 @@ use Rattle.flow_defs.specs.Coded.{Coded}
 use Rattle.symbols_relocs.specs.Functions.{starts_at}
 use Rattle.special_sections.specs.Special.{special_of}
 use Rattle.alternatives.specs.Texts.{is_cut, insn_at, is_boundary}
-use Rattle.machine_defs.specs.Program.{Site}
 use Rattle.flow_defs.specs.declared.fault.FlowFault.{FlowFault}
 use Rattle.flow_defs.specs.declared.fault.FlowFault.TheVariants.{FuncStart, NotBoundary, StaticSite, NotCall, NotFunction, NoMemory}
 use Rattle.flow_defs.specs.Code.{texts_of}

@@ -25,3 +25,5 @@ pub mod WorkedReturning
 pub mod WorkedOwners
 pub mod WorkedFields
 pub mod WorkedWays
+pub mod WorkedSites
+pub mod WorkedNames

@@ -1,5 +1,5 @@
 -- The alternatives sites of an object, as a program has them.
-use Rattle.std.specs.Prelude.{ℕ, ◌==◌, ◌&&◌, not, Bool, false, List, find, filter_map, flat_map, map, length, Option, Some, None, option_map}
+use Rattle.std.specs.Prelude.{◌&&◌, not, Bool, false, List, find, filter_map, flat_map, map, length, Option, Some, None, option_map}
 use Rattle.ot_base.specs.declared.place.Place.{Place}
 use Rattle.ot_base.specs.Places.{same_place}
 use Rattle.flow_defs.specs.Coded.{Coded}

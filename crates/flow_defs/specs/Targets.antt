@@ -1,5 +1,5 @@
 -- Where direct calls and branches go, from the code of an object and from its replacements.
-use Rattle.std.specs.Prelude.{ℕ, ℤ, pos, ◌+ℤ◌, ◌+◌, ◌&&◌, not, Bool, Option, Some, None, is_none, is_some, option_map, if◌then◌else◌, ◌==◌}
+use Rattle.std.specs.Prelude.{ℕ, ℤ, pos, ◌+ℤ◌, ◌+◌, ◌&&◌, not, Bool, Option, Some, None, is_none, option_map, if◌then◌else◌}
 use Rattle.ot_base.specs.declared.place.Place.{Place}
 use Rattle.ot_base.specs.Places.{same_place}
 use Rattle.operation_defs.specs.declared.insn.Insn.{Insn}

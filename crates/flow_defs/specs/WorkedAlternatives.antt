@@ -1,12 +1,11 @@
 -- Sites with replacements that are shorter, that jump, and that call; and what isn't said of their padding.
-use Rattle.std.specs.Prelude.{◌≡◌, ℕ, map, true, false, List, [], ◌∷◌, ◌++◌, Option, Some, None, codes}
+use Rattle.std.specs.Prelude.{◌≡◌, map, true, false, [], ◌∷◌, ◌++◌, Some, None, codes}
 use Rattle.ot_base.specs.NameLists.{NameLists}
 use Rattle.flow_defs.specs.Coded.{Coded}
-use Rattle.operation_defs.specs.declared.insn.Insn.{Insn}
 use Rattle.operation_defs.specs.declared.op.Op.TheVariants.{Nop}
 use Rattle.state_defs.specs.declared.state.HintState.TheVariants.{Restore, Save}
-use Rattle.machine_defs.specs.declared.flow.EdgeKind.TheVariants.{Next, Taken, Fixup, Table, Sibling}
-use Rattle.machine_defs.specs.declared.flow.Role.TheVariants.{Plain, CallIn, CallEither, CallOut, CallAny, Return, JumpOut, JumpAny, Switch}
+use Rattle.machine_defs.specs.declared.flow.EdgeKind.TheVariants.{Next, Taken, Fixup}
+use Rattle.machine_defs.specs.declared.flow.Role.TheVariants.{Plain, CallOut, CallAny, Return}
 use Rattle.machine_defs.specs.Program.{edge, no_marks}
 use Rattle.flow_defs.specs.Program.{program_of}
 use Rattle.flow_defs.specs.WorkedCalls.{before}

@@ -1,13 +1,13 @@
 -- Calls and jumps by relocations, and what a name that never returns does.
-use Rattle.std.specs.Prelude.{◌≡◌, ℕ, negsuc, true, false, List, [], ◌∷◌, ◌++◌, Option, Some, None, codes}
+use Rattle.std.specs.Prelude.{◌≡◌, ℕ, negsuc, true, [], ◌∷◌, ◌++◌, codes}
 use Rattle.ot_base.specs.NameLists.{NameLists}
 use Rattle.elf_objects.specs.declared.symbol.Reloc.{Reloc}
 use Rattle.flow_defs.specs.Coded.{Coded}
-use Rattle.machine_defs.specs.declared.flow.EdgeKind.TheVariants.{Next, Taken, Fixup, Table, Sibling}
-use Rattle.machine_defs.specs.declared.flow.Role.TheVariants.{Plain, CallIn, CallEither, CallOut, CallAny, Return, JumpOut, JumpAny, Switch}
+use Rattle.machine_defs.specs.declared.flow.EdgeKind.TheVariants.{Next, Sibling}
+use Rattle.machine_defs.specs.declared.flow.Role.TheVariants.{Plain, CallEither, CallOut, CallAny, Return, JumpOut}
 use Rattle.machine_defs.specs.Program.{edge, no_marks}
 use Rattle.flow_defs.specs.Program.{program_of}
-use Rattle.flow_defs.specs.WorkedObjects.{code_section, data_section, edges_of_points, for_section, function_symbol, marks_of_points, object, outside, pair_at, reloc, returning_points, roles_of_points, zeros}
+use Rattle.flow_defs.specs.WorkedObjects.{code_section, edges_of_points, function_symbol, marks_of_points, object, outside, roles_of_points, zeros}
 
 -- the relocation PLT32 of a branch whose displacement begins at an offset: the place of a symbol itself
 abbrev pub before : ℕ → ℕ → Reloc

@@ -1,5 +1,5 @@
 -- One object with each field of its program, and one with a mark that it lacks.
-use Rattle.std.specs.Prelude.{◌≡◌, ℕ, map, negsuc, pos, true, false, List, [], ◌∷◌, ◌++◌, Option, Some, None, codes}
+use Rattle.std.specs.Prelude.{◌≡◌, ℕ, map, negsuc, pos, true, false, List, [], ◌∷◌, ◌++◌, Some, None, codes}
 use Rattle.std.specs.FinSet as set
 use Rattle.ot_base.specs.declared.place.Place.{Place}
 use Rattle.ot_base.specs.NameLists.{NameLists}
@@ -66,16 +66,23 @@ pub record HasFields (lists : NameLists) : Type 0 where
       ≡ false ∷ false ∷ false ∷ false ∷ false ∷ false ∷ true ∷ false ∷ false ∷ false ∷ false ∷ []
   pub in_patches : of_points (program_of whole lists) (program_of whole lists).in_patches
       ≡ false ∷ false ∷ false ∷ false ∷ false ∷ false ∷ false ∷ false ∷ true ∷ true ∷ true ∷ []
+  pub uncovered : of_points (program_of whole lists) (program_of whole lists).uncovered
+      ≡ false ∷ false ∷ false ∷ false ∷ false ∷ false ∷ false ∷ true ∷ false ∷ false ∷ false ∷ []
   pub previous : of_points (program_of whole lists) (program_of whole lists).previous
       ≡ None ∷ Some 0 ∷ Some 1 ∷ Some 2 ∷ Some 3 ∷ Some 4 ∷ Some 5 ∷ Some 6 ∷ None ∷ None ∷ None ∷ []
   pub hints : of_points (program_of whole lists) (program_of whole lists).hint ≡ None ∷ None ∷ None ∷ None ∷ None ∷ None ∷ None ∷ None ∷ None ∷ None ∷ None ∷ []
+  pub own_hints : of_points (program_of whole lists) (program_of whole lists).own_hint
+      ≡ false ∷ false ∷ false ∷ false ∷ false ∷ false ∷ false ∷ false ∷ false ∷ false ∷ false ∷ []
   pub edges : edges_of_points (program_of whole lists)
-      ≡ ((edge 1 Next ∷ edge 9 Next ∷ []) ∷ (edge 2 Next ∷ []) ∷ (edge 3 Next ∷ []) ∷ (edge 4 Next ∷ []) ∷ [] ∷ [] ∷ [] ∷ [] ∷ [] ∷ (edge 10 Next ∷ []) ∷ (edge 3 Next ∷ []) ∷ [])
+      ≡ ((edge 1 Next ∷ edge 9 Next ∷ []) ∷ (edge 3 Next ∷ []) ∷ (edge 3 Next ∷ []) ∷ (edge 4 Next ∷ []) ∷ [] ∷ [] ∷ [] ∷ [] ∷ [] ∷ (edge 10 Next ∷ []) ∷ (edge 3 Next ∷ []) ∷ [])
   pub roles : roles_of_points (program_of whole lists) ≡ (CallOut 7 ∷ Plain ∷ Plain ∷ Plain ∷ Return ∷ Return ∷ Return ∷ Return ∷ Plain ∷ Plain ∷ Plain ∷ [])
+  pub names : of_points (program_of whole lists) (program_of whole lists).names ≡ Some 7 ∷ None ∷ None ∷ None ∷ None ∷ None ∷ None ∷ None ∷ None ∷ None ∷ None ∷ []
+  pub marked_calls : of_points (program_of whole lists) (program_of whole lists).marked_call
+      ≡ false ∷ false ∷ false ∷ false ∷ false ∷ false ∷ false ∷ false ∷ false ∷ false ∷ false ∷ []
   pub marks : marks_of_points (program_of whole lists)
       ≡ (no_marks ∷ no_marks ∷ no_marks ∷ record no_marks { into_site = true } ∷ no_marks ∷ no_marks ∷ no_marks ∷ no_marks ∷ record no_marks { past_end = true } ∷ no_marks ∷ no_marks ∷ [])
   pub after : of_points (program_of whole lists) (program_of whole lists).after
-      ≡ ((1 ∷ 9 ∷ []) ∷ (2 ∷ []) ∷ (3 ∷ []) ∷ (4 ∷ []) ∷ (5 ∷ []) ∷ (6 ∷ []) ∷ (7 ∷ []) ∷ [] ∷ [] ∷ (10 ∷ []) ∷ (3 ∷ []) ∷ [])
+      ≡ ((1 ∷ 9 ∷ []) ∷ (3 ∷ []) ∷ (3 ∷ []) ∷ (4 ∷ []) ∷ (5 ∷ []) ∷ (6 ∷ []) ∷ (7 ∷ []) ∷ [] ∷ [] ∷ (10 ∷ []) ∷ (3 ∷ []) ∷ [])
   pub arrive_at_site : (program_of whole lists).arrive (in_text 5) ≡ 1 ∷ 9 ∷ []
   pub arrive_within : (program_of whole lists).arrive (in_text 6) ≡ 2 ∷ []
   pub entries : (program_of whole lists).entries ≡ 0 ∷ []
@@ -86,6 +93,7 @@ pub record HasFields (lists : NameLists) : Type 0 where
   pub sites : (program_of whole lists).sites ≡ record { start = in_text 5; len = 2 } ∷ []
   pub texts : (program_of whole lists).texts ≡ record { sec = 1; size = 13 } ∷ record { sec = 2; size = 1 } ∷ []
   pub unsized : (program_of whole lists).unsized ≡ in_text 12 ∷ []
+  pub linked : (program_of whole lists).linked ≡ false
 
 -- f takes 8 bytes of the stack and gives them back; a relocation changes how many it takes, and one of type 0 changes nothing
 abbrev pub relocated : Coded

@@ -1,14 +1,13 @@
 -- Whose code is whose: unchecked functions, code without owner, dead ends, and IRETs.
-use Rattle.std.specs.Prelude.{◌≡◌, ℕ, map, negsuc, true, false, List, [], ◌∷◌, ◌++◌, Option, Some, None, codes}
+use Rattle.std.specs.Prelude.{◌≡◌, map, negsuc, true, false, [], ◌∷◌, ◌++◌, Some, None, codes}
 use Rattle.ot_base.specs.NameLists.{NameLists}
 use Rattle.flow_defs.specs.Coded.{Coded}
-use Rattle.operation_defs.specs.declared.insn.Insn.{Insn}
 use Rattle.operation_defs.specs.declared.op.Op.TheVariants.{Iret, IretNext, Ret}
-use Rattle.machine_defs.specs.declared.flow.EdgeKind.TheVariants.{Next, Taken, Fixup, Table, Sibling}
-use Rattle.machine_defs.specs.declared.flow.Role.TheVariants.{Plain, CallIn, CallEither, CallOut, CallAny, Return, JumpOut, JumpAny, Switch}
+use Rattle.machine_defs.specs.declared.flow.EdgeKind.TheVariants.{Next, Taken}
+use Rattle.machine_defs.specs.declared.flow.Role.TheVariants.{Plain, CallOut, Return, JumpOut, Switch}
 use Rattle.machine_defs.specs.Program.{edge, no_marks}
 use Rattle.flow_defs.specs.Program.{program_of}
-use Rattle.flow_defs.specs.WorkedObjects.{code_section, data_section, edges_of_points, for_section, function_symbol, marks_of_points, object, outside, pair_at, reloc, returning_points, roles_of_points, zeros}
+use Rattle.flow_defs.specs.WorkedObjects.{code_section, data_section, edges_of_points, for_section, function_symbol, marks_of_points, object, reloc, roles_of_points, zeros}
 
 -- f is listed as one without a standard frame, so neither it nor its part f.cold is checked. g jumps to f, calls it, and
 -- jumps to its part, which is no start of an entry but one of an unchecked function.

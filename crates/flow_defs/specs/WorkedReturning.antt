@@ -1,14 +1,14 @@
 -- A call that can't return, and what may come back.
-use Rattle.std.specs.Prelude.{◌≡◌, ℕ, not, true, false, List, [], ◌∷◌, ◌++◌, Option, Some, None, codes}
+use Rattle.std.specs.Prelude.{◌≡◌, not, true, false, [], ◌∷◌, ◌++◌, codes}
 use Rattle.std.specs.FinSet as set
 use Rattle.ot_base.specs.NameLists.{NameLists}
 use Rattle.flow_defs.specs.Coded.{Coded}
-use Rattle.machine_defs.specs.declared.flow.EdgeKind.TheVariants.{Next, Taken, Fixup, Table, Sibling}
-use Rattle.machine_defs.specs.declared.flow.Role.TheVariants.{Plain, CallIn, CallEither, CallOut, CallAny, Return, JumpOut, JumpAny, Switch}
+use Rattle.machine_defs.specs.declared.flow.EdgeKind.TheVariants.{Next}
+use Rattle.machine_defs.specs.declared.flow.Role.TheVariants.{CallIn, CallOut, Return}
 use Rattle.machine_defs.specs.Program.{edge, no_marks}
 use Rattle.flow_defs.specs.Program.{program_of}
 use Rattle.flow_defs.specs.WorkedCalls.{before}
-use Rattle.flow_defs.specs.WorkedObjects.{code_section, data_section, edges_of_points, for_section, function_symbol, marks_of_points, object, outside, pair_at, reloc, returning_points, roles_of_points, zeros}
+use Rattle.flow_defs.specs.WorkedObjects.{code_section, edges_of_points, function_symbol, marks_of_points, object, outside, reloc, returning_points, roles_of_points, zeros}
 
 -- f calls panic right before g, which calls f and goes on to its return; h calls itself before its return
 abbrev pub never_returning : Coded

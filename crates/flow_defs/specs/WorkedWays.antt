@@ -1,6 +1,6 @@
 -- Ways that control seldom takes: calls within functions and between code of no function, ways out that come back, tables that
 -- registers lead to, and room under a frame.
-use Rattle.std.specs.Prelude.{◌≡◌, ℕ, map, pos, true, List, [], ◌∷◌, ◌++◌, Option, Some, None, codes}
+use Rattle.std.specs.Prelude.{◌≡◌, map, pos, true, [], ◌∷◌, ◌++◌, Some, None, codes}
 use Rattle.ot_base.specs.NameLists.{NameLists}
 use Rattle.flow_defs.specs.Coded.{Coded}
 use Rattle.operation_defs.specs.declared.op.Op.TheVariants as ops

@@ -5,8 +5,10 @@ ghost use Rattle.flow_defs.specs.WorkedAlternatives.{HasNested, HasPadded, HasPa
 ghost use Rattle.flow_defs.specs.WorkedCalls.{HasCalls};
 ghost use Rattle.flow_defs.specs.WorkedFields.{HasFields, HasRelocated};
 ghost use Rattle.flow_defs.specs.WorkedListed.{HasExceptionEntry, HasJumpTable, HasStaticBranch};
+ghost use Rattle.flow_defs.specs.WorkedNames.{HasHole, HasMarked, HasNamedCalls, HasReturningCode, HasTaskSwitch};
 ghost use Rattle.flow_defs.specs.WorkedOwners.{HasCodeWithoutOwner, HasDeadEnds, HasIrets, HasUnchecked};
 ghost use Rattle.flow_defs.specs.WorkedReturning.{HasLastCall, HasListedCall, HasNeverReturning};
+ghost use Rattle.flow_defs.specs.WorkedSites.{HasHintedSites, HasNoOps};
 ghost use Rattle.flow_defs.specs.WorkedWays.{HasFreeCalls, HasIntraCalls, HasRegisterTable, HasRoom, HasSystemCalls};
 
 /// A site over a call, whose replacement is shorter.
@@ -127,4 +129,39 @@ pub fn register_table()
 /// A function that makes room under its frame, and one that doesn't.
 pub fn room()
     ensures { (lists : NameLists) → HasRoom lists }
+{}
+
+/// No-ops in a site, and outside it.
+pub fn no_ops()
+    ensures { (lists : NameLists) → HasNoOps lists }
+{}
+
+/// Hints where sites start, and what counts for their replacements.
+pub fn hinted_sites()
+    ensures { (lists : NameLists) → HasHintedSites lists }
+{}
+
+/// A call that is marked as one behind which control comes back.
+pub fn marked_call()
+    ensures { (lists : NameLists) → HasMarked lists }
+{}
+
+/// A call of code that returns for its caller, and a jump to it.
+pub fn returning_code()
+    ensures { (lists : NameLists) → HasReturningCode lists }
+{}
+
+/// A function's calls of code of no function, by name and without.
+pub fn named_calls()
+    ensures { (lists : NameLists) → HasNamedCalls lists }
+{}
+
+/// Code that no symbol covers, in an object that is linked from two.
+pub fn hole()
+    ensures { (lists : NameLists) → HasHole lists }
+{}
+
+/// Loose code, and code that switches tasks.
+pub fn task_switch()
+    ensures { (lists : NameLists) → HasTaskSwitch lists }
 {}
