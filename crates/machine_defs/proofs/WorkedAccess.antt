@@ -4,7 +4,7 @@ use Rattle.ot_base.specs.declared.rules.TheConstants.{ACCESS_OFF_TWICE, POPF_WIT
 use Rattle.machine_defs.specs.declared.flow.EdgeKind.TheVariants.{Next, Sibling}
 use Rattle.machine_defs.specs.Program.{edge}
 use Rattle.machine_defs.specs.Worked.{at}
-use Rattle.machine_defs.specs.Access.{Reached, entered, along}
+use Rattle.machine_defs.specs.Access.{Reached, entered, called, along}
 use Rattle.machine_defs.specs.AccessRules.{by_return, inside}
 use Rattle.machine_defs.specs.AccessRules as rules
 use Rattle.machine_defs.specs.Asked.{indirect_branch, naked_return}
@@ -40,9 +40,14 @@ turned_off = along 5 true true (edge 6 Next) at_second (0, lit< tt, refl) next_i
 at_third : Reached accessed one_safe 7 false false
 at_third = entered 7 7 (2, lit< tt, refl) (0, lit< tt, refl) refl
 
+-- code of no function turns it on
+turned_on_there : Reached accessed one_safe 13 true false
+turned_on_there = along 12 false false (edge 13 Next) (called 12 (lit< tt) refl refl refl) (0, lit< tt, refl) next_is_within refl
+
 pub warns_where_asked : WarnsWhereAsked
 warns_where_asked = record {
   on_twice = rules.on_twice 1 false turned_on refl;
+  on_twice_called = rules.on_twice 13 false turned_on_there refl;
   call_with_access = rules.call_with_access 3 false _ at_call (inside 7 refl refl);
   return_with_access = rules.return_with_access 4 at_return (by_return refl);
   safe_turns_off = rules.safe_turns_off 5 true at_second refl;

@@ -7,7 +7,7 @@ use Rattle.machine_defs.specs.declared.flow.EdgeKind.TheVariants.{Next}
 use Rattle.machine_defs.specs.Program.{entry_points, edge}
 use Rattle.machine_defs.specs.Kept.{edges_of}
 use Rattle.machine_defs.specs.Worked.{at}
-use Rattle.machine_defs.specs.Access.{access_along, Reached, entered, hinted, along}
+use Rattle.machine_defs.specs.Access.{access_along, Reached, entered, hinted, called, along}
 use Rattle.machine_defs.specs.AccessRules.{AccessWarns}
 use Rattle.machine_defs.specs.AccessRules as rules
 use Rattle.machine_defs.specs.WorkedAccess.{accessed, one_safe}
@@ -41,7 +41,9 @@ from_clac (suc (suc (suc (suc (suc (suc (suc (suc zero)))))))) e c to = absurd (
 from_clac (suc (suc (suc (suc (suc (suc (suc (suc (suc zero))))))))) e c to = absurd (other 10 8 e c to (λ h. omega arith))
 from_clac (suc (suc (suc (suc (suc (suc (suc (suc (suc (suc zero)))))))))) e c to = absurd (none e c)
 from_clac (suc (suc (suc (suc (suc (suc (suc (suc (suc (suc (suc zero))))))))))) e c to = absurd (none e c)
-from_clac (suc (suc (suc (suc (suc (suc (suc (suc (suc (suc (suc (suc q)))))))))))) e c to = absurd (none e c)
+from_clac (suc (suc (suc (suc (suc (suc (suc (suc (suc (suc (suc (suc zero)))))))))))) e c to = absurd (other 13 8 e c to (λ h. omega arith))
+from_clac (suc (suc (suc (suc (suc (suc (suc (suc (suc (suc (suc (suc (suc zero))))))))))))) e c to = absurd (none e c)
+from_clac (suc (suc (suc (suc (suc (suc (suc (suc (suc (suc (suc (suc (suc (suc q)))))))))))))) e c to = absurd (none e c)
 
 -- no function begins there
 not_at : (n q : ℕ) → Contains (n ∷ []) q → q ≡ 8 → n ≢ 8 → ⊥
@@ -57,6 +59,7 @@ no_entry entry q (suc (suc (suc k)), below, is) c there = absurd (omega (arith, 
 is_off : (q : ℕ) (access home : Bool) → Reached accessed one_safe q access home → q ≡ 8 → access ≡ false
 is_off _ _ _ (entered q entry listed arrives smap) there = absurd (no_entry entry q listed arrives there)
 is_off _ _ _ (hinted q point own owner) there = refl
+is_off _ _ _ (called q point hint owner smap) there = refl
 is_off _ _ _ (along q access home e reached leads kind smap) there =
     let from : (q ≡ 7) × (e ≡ edge 8 Next) = from_clac q e leads there in
     subst (λ (x : ℕ). access_along e.kind (accessed.insn x).op access ≡ false) (sym from.0)

@@ -1,5 +1,5 @@
 -- Each reason for a warning that an option asks for, in one worked program of three functions, the second of which is listed as safe.
-use Rattle.std.specs.Prelude.{ℕ, true, false, List, [], ◌∷◌, Option, Some, None, slice_index_or, filter, ◌==◌, pos}
+use Rattle.std.specs.Prelude.{ℕ, true, false, List, [], ◌∷◌, Option, Some, None, slice_index_or, filter, if◌then◌else◌, ◌==◌, pos}
 use Rattle.ot_base.specs.declared.options.Options.{Options}
 use Rattle.ot_base.specs.declared.rules.TheConstants.{INDIRECT_BRANCH, NAKED_RETURN, CALL_WITH_ACCESS, RETURN_WITH_ACCESS, RETURN_WITHOUT_ACCESS, ACCESS_ON_TWICE, ACCESS_OFF_TWICE, SAFE_FUNCTION_ACCESS_OFF, POPF_WITH_ACCESS_TRACKED}
 use Rattle.ot_base.specs.Places.{same_place}
@@ -9,6 +9,9 @@ use Rattle.machine_defs.specs.declared.flow.Edge.{Edge}
 use Rattle.machine_defs.specs.declared.flow.EdgeKind.TheVariants.{Next}
 use Rattle.machine_defs.specs.declared.flow.Role.{Role}
 use Rattle.machine_defs.specs.declared.flow.Role.TheVariants.{Plain, CallIn, CallAny, Return}
+use Rattle.state_defs.specs.declared.state.EndKind.TheVariants.{Undefined}
+use Rattle.state_defs.specs.declared.state.State.TheVariants.{Ended}
+use Rattle.state_defs.specs.declared.state.HintState.TheVariants.{Set}
 use Rattle.machine_defs.specs.Program.{Program, below, edge}
 use Rattle.machine_defs.specs.Allowances.{Allowances}
 use Rattle.machine_defs.specs.AccessRules.{AccessWarns}
@@ -41,7 +44,10 @@ access_points =
     ∷ goes_on 7 Popf Plain 9
     ∷ goes_on 7 CallInd CallAny 10
     ∷ returns 7
+    -- of no function: where a hint stands, and where one counts that stands elsewhere
     ∷ record { function = None; op = Clac; role = Return; goes = [] }
+    ∷ record { function = None; op = Stac; role = Plain; goes = edge 13 Next ∷ [] }
+    ∷ record { function = None; op = Stac; role = Return; goes = [] }
     ∷ []
 
 abbrev pub access_point : ℕ → WorkedAccessPoint
@@ -49,18 +55,19 @@ access_point q = slice_index_or access_points q (returns 7)
 
 abbrev pub accessed : Program
 accessed = record framed {
-  count = 12;
+  count = 14;
   insn = λ q. insn (access_point q).op 1;
   place = at;
   address = at;
   function = λ q. (access_point q).function;
   owner = λ q. (access_point q).function;
+  hint = λ q. if q == 11 then Some (Set (Ended Undefined)) else (if q == 12 then Some (Set (Ended Undefined)) else None);
   own_hint = λ q. q == 11;
   goes = λ q. (access_point q).goes;
   role = λ q. (access_point q).role;
-  arrive = λ wanted. filter (λ q. same_place (at q) wanted) (below 12);
+  arrive = λ wanted. filter (λ q. same_place (at q) wanted) (below 14);
   entries = 0 ∷ 5 ∷ 7 ∷ [];
-  texts = record { sec = 1; size = 12 } ∷ [];
+  texts = record { sec = 1; size = 14 } ∷ [];
 }
 
 -- the name of the second function is listed, and no branch
@@ -75,6 +82,8 @@ WarnsOfAccessAt off rule = AccessWarns accessed one_safe (at off) rule (pos 0) (
 
 pub record WarnsWhereAsked : Type 0 where
   pub on_twice : WarnsOfAccessAt 1 ACCESS_ON_TWICE
+  -- what may be called by code elsewhere is followed, though no hint stands at its own place
+  pub on_twice_called : WarnsOfAccessAt 13 ACCESS_ON_TWICE
   -- the third function is called, which isn't safe
   pub call_with_access : AccessWarns accessed one_safe (at 3) CALL_WITH_ACCESS (pos 7) (pos 0)
   pub return_with_access : WarnsOfAccessAt 4 RETURN_WITH_ACCESS

@@ -29,7 +29,7 @@ AreIn p allowed (At s) homes = AreHere p allowed s homes
 -- these runs are runs
 pub forgotten : (p : Program) (allowed : Allowances) (bases : Bases) (m : Machine) (homes : List Bool) → AccessRun p allowed bases m homes → Run p bases m
 forgotten p allowed bases m homes (at_entry s entry start stack c d taken now) = started s start stack
-forgotten p allowed bases m homes (at_hint s hint start stack h free now) = started s start stack
+forgotten p allowed bases m homes (at_hint s start stack own free now) = started s start stack
 forgotten p allowed bases m homes (stepped k n hs after r step quiet homes_after taken stays) = run.stepped k n (forgotten p allowed bases k hs r) step stays
 
 module _ (law : UnwindingLaw) (p : Program) (allowed : Allowances) (bases : Bases) (is : IsProgram p) (functions : EntersFunctions p) (placed : IsPlacement p bases) (acc : IsAccepted p) (fine : (place : Place) (rule : ℕ) (a b : ℤ) → AccessWarns p allowed place rule a b → ⊥) where
@@ -61,7 +61,7 @@ module _ (law : UnwindingLaw) (p : Program) (allowed : Allowances) (bases : Base
 
   run_in : (m : Machine) (homes : List Bool) → AccessRun p allowed bases m homes → AreIn p allowed m homes
   run_in m homes (at_entry s entry start stack c d taken now) = start_here p allowed bases s _ start (entered s.point entry c d taken) now
-  run_in m homes (at_hint s hint start stack h free now) = start_here p allowed bases s false start (hinted s.point hint (in_order (At s) _ (at_hint s hint start stack h free now)).0.point h free) now
+  run_in m homes (at_hint s start stack own free now) = start_here p allowed bases s false start (hinted s.point (in_order (At s) _ (at_hint s start stack own free now)).0.point own free) now
   run_in m homes (stepped k n hs after r step quiet homes_after taken stays) = step_in k n hs after (in_order k hs r) (run_in k hs r) step quiet homes_after taken
 
   -- there user access is in order

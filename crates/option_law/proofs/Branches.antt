@@ -11,8 +11,8 @@ use Rattle.option_law.proofs.Clean.{unless_false, accepted}
 in_order : (p : Program) (allowed : Allowances) (options : Options) (bases : Bases) → IsClean p allowed options → (m : Machine) → IsInOrder p bases m → BranchesSafely p allowed options m
 in_order p allowed options bases clean Wrecked o = o
 in_order p allowed options bases clean (At s) o = (
-  λ asked branch. unless_false (allowed.safe_branch s.point) (λ e. clean _ _ _ _ (indirect_branch s.point asked o.0.point branch e)),
-  λ asked branch. unless_false (allowed.safe_branch s.point) (λ e. clean _ _ _ _ (naked_return s.point asked o.0.point branch e)),
+  λ asked branch early. unless_false (allowed.safe_branch s.point) (λ e. clean _ _ _ _ (indirect_branch s.point asked o.0.point branch e early)),
+  λ asked branch early. unless_false (allowed.safe_branch s.point) (λ e. clean _ _ _ _ (naked_return s.point asked o.0.point branch e early)),
 )
 
 pub law_from : UnwindingLaw → BranchLaw

@@ -23,9 +23,9 @@ use Rattle.unwinding_law.proofs.Passes.{same_frames}
 access_of : Core → Bool
 access_of c = c.ac
 
--- STAC and CLAC alone change user access, but POPF
+-- STAC and CLAC alone change user access, and a POPF where it is on
 module _ (c d : Core) where
-  pub effect_access : (op : Op) → op ≢ Popf → Effect op c d → d.ac ≡ access_after op c.ac
+  pub effect_access : (op : Op) → (op ≡ Popf → c.ac ≡ false) → Effect op c d → d.ac ≡ access_after op c.ac
   effect_access Plain n e = ap (λ (x : Core). x.ac) e.1
   effect_access Nop n e = ap (λ (x : Core). x.ac) e
   effect_access Endbr n e = ap (λ (x : Core). x.ac) e
@@ -33,7 +33,7 @@ module _ (c d : Core) where
   effect_access PushBp n e = ap (λ (x : Core). x.ac) e.1
   effect_access Pop n e = ap (λ (x : Core). x.ac) e.1
   effect_access PopBp n e = ap (λ (x : Core). x.ac) e.1
-  effect_access Popf n e = absurd (n refl)
+  effect_access Popf n e = e.0 (n refl) ∙ sym (n refl)
   effect_access (AddSp by) n e = ap (λ (x : Core). x.ac) e
   effect_access (AndSp mask) n e = ap (λ (x : Core). x.ac) e
   effect_access (LeaSpBp by) n e = ap (λ (x : Core). x.ac) e
@@ -73,16 +73,16 @@ acts_after true SubSp now = refl
 acts_after true SpReg now = refl
 acts_after true _ now = refl
 
-acts_popf : (b : Bool) (op : Op) → op ≢ Popf → (if b then as_any_write op else op) ≢ Popf
-acts_popf false op n = n
-acts_popf true SubSp n = λ e. let k : ⊥ = cc in k
-acts_popf true SpReg n = λ e. let k : ⊥ = cc in k
-acts_popf true _ n = n
+acts_popf : (b : Bool) (op : Op) → (if b then as_any_write op else op) ≡ Popf → op ≡ Popf
+acts_popf false op e = e
+acts_popf true SubSp e = absurd (let k : ⊥ = cc in k)
+acts_popf true SpReg e = absurd (let k : ⊥ = cc in k)
+acts_popf true _ e = e
 
 -- where an instruction goes on, access is that behind it
-pub goes_on_access : (p : Program) (s t : Standing) → (p.insn s.point).op ≢ Popf → GoesOn p s t → t.core.ac ≡ access_after (p.insn s.point).op s.core.ac
+pub goes_on_access : (p : Program) (s t : Standing) → ((p.insn s.point).op ≡ Popf → s.core.ac ≡ false) → GoesOn p s t → t.core.ac ≡ access_after (p.insn s.point).op s.core.ac
 goes_on_access p s t n g =
-    effect_access s.core t.core (op_at p s) (acts_popf (is_some s.ended || is_before_hint p s.point) (p.insn s.point).op n) g.effect
+    effect_access s.core t.core (op_at p s) (λ e. n (acts_popf (is_some s.ended || is_before_hint p s.point) (p.insn s.point).op e)) g.effect
     ∙ acts_after (is_some s.ended || is_before_hint p s.point) (p.insn s.point).op s.core.ac
 
 -- along a local edge access is that behind the instruction

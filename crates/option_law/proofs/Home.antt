@@ -81,10 +81,11 @@ module _ (p : Program) (allowed : Allowances) (fine : (place : Place) (rule : �
   left_home q now made home (as_expected now2 home2 r) l = expected_left q now home l r
   left_home q now made home (kept_off r) l = refl
 
-  -- nothing stands at a popf
-  pub no_popf : (q : ℕ) (now made home : Bool) → IsAtHome p allowed q now made home → (p.insn q).op ≢ Popf
-  no_popf q now made home (as_expected now2 home2 r) e = fine _ _ _ _ (popf q now home r e)
-  no_popf q now made home (kept_off r) e = fine _ _ _ _ (popf q true true r e)
+  -- at a popf access is off
+  pub popf_off : (q : ℕ) (now made home : Bool) → IsAtHome p allowed q now made home → (p.insn q).op ≡ Popf → now ≡ false
+  popf_off q true made home (as_expected now2 home2 r) e = absurd (fine _ _ _ _ (popf q home r e))
+  popf_off q false made home (as_expected now2 home2 r) e = refl
+  popf_off q now made home (kept_off r) e = refl
 
   module _ (q r : ℕ) (kind : EdgeKind) (along : Contains (edges_of p q) (edge r kind)) (other : kind ≢ Sibling) (taken : allowed.lacks_smap r ≡ false) where
     next : (now home : Bool) → Reached p allowed q now home → Reached p allowed r (access_along kind (p.insn q).op now) home

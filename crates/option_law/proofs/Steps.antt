@@ -18,10 +18,11 @@ use Rattle.machine_defs.specs.AccessRules.{AccessWarns}
 use Rattle.option_law.specs.Access.{below_top, top_of}
 use Rattle.unwinding_law.proofs.WaysOn.{acts_no_call}
 use Rattle.unwinding_law.proofs.Shadow.{effect_shape, effect_no_call}
-use Rattle.unwinding_law.proofs.Passes.{same_frames, out_calls}
+use Rattle.unwinding_law.proofs.Passes.{same_frames}
+use Rattle.unwinding_law.proofs.ComesBack.{out_calls}
 use Rattle.unwinding_law.proofs.Edges.{plain_role, may_go, edge_in, call_next_in}
 use Rattle.unwinding_law.proofs.Backs.{inner_of, comes_back_to}
-use Rattle.option_law.proofs.Home.{IsAtHome, as_expected, AreAtHome, at_top, elsewhere, replaced, reached_on, entered_home, left_home, no_popf, same_home, next_home}
+use Rattle.option_law.proofs.Home.{IsAtHome, as_expected, AreAtHome, at_top, elsewhere, replaced, reached_on, entered_home, left_home, popf_off, same_home, next_home}
 use Rattle.option_law.proofs.Effects.{goes_on_access, local_along, local_stays, call_access, IsLanded, landed}
 use Rattle.option_law.proofs.Targets.{leaves_there, called_entry, jump_entry, jump_leaves, reached_entry, reached_callee, safe_jump, safe_call}
 
@@ -62,9 +63,9 @@ module _ (p : Program) (allowed : Allowances) (bases : Bases) where
 
   pub start_here : (s : Standing) (home : Bool) → Start p bases s → Reached p allowed s.point home home → s.core.ac ≡ home → AreHere p allowed s (home ∷ [])
   start_here s home (at_entry t s2 f entry c d called e from) r now = one_here t s home from r now called.ra called.cfa called.bp _ called.shadow
-  start_here s home (at_call_hint t s2 depth fp bp may h called from) r now = one_here t s home from r now called.ra called.cfa called.bp _ called.shadow
-  start_here s home (at_regs_hint t s2 full depth may h was from) r now = one_here t s home from r now was.ra was.cfa was.bp was.slot was.shadow
-  start_here s home (at_end_hint t s2 kind may h empty from) r now = none_here t s home from r now empty
+  start_here s home (at_call_hint t s2 depth fp bp may called from) r now = one_here t s home from r now called.ra called.cfa called.bp _ called.shadow
+  start_here s home (at_regs_hint t s2 full depth may was from) r now = one_here t s home from r now was.ra was.cfa was.bp was.slot was.shadow
+  start_here s home (at_end_hint t s2 kind may empty from) r now = none_here t s home from r now empty
 
 module _ (p : Program) (allowed : Allowances) (bases : Bases) (is : IsProgram p) (acc : IsAccepted p) (functions : EntersFunctions p) (fine : (place : Place) (rule : ℕ) (a b : ℤ) → AccessWarns p allowed place rule a b → ⊥) (s t : Standing) (r : HasRunInvariant p s) (f : HasFrameInvariant p bases s) (homes : List Bool) (h : AreHere p allowed s homes) where
   here : (made : Bool) × IsAtHome p allowed s.point s.core.ac made (top_of homes)
@@ -74,7 +75,7 @@ module _ (p : Program) (allowed : Allowances) (bases : Bases) (is : IsProgram p)
   goes_on_here g taken =
       let role = plain_role p is s.point r.point (is_call (p.role s.point)) refl (acts_no_call p s (effect_no_call s.core t.core (op_at p s) g.effect)) in
       let along = edge_in p is acc s.point t.point g.kind g.along (may_go p s.point g.kind g.local role) in
-      let access = goes_on_access p s t (no_popf p allowed fine s.point s.core.ac here.0 (top_of homes) here.1) g in
+      let access = goes_on_access p s t (popf_off p allowed fine s.point s.core.ac here.0 (top_of homes) here.1) g in
       elsewhere p allowed s.point t.point s.core.ac t.core.ac s.core.shadow t.core.shadow homes (effect_shape s.core t.core (op_at p s) g.effect)
       (λ made k. subst (λ (x : Bool). IsAtHome p allowed t.point x made (top_of homes)) (sym access) (next_home p allowed fine s.point t.point g.kind along (local_stays g.kind g.local) taken (local_along g.kind (p.insn s.point).op g.local) s.core.ac made (top_of homes) k)) h
 
@@ -91,7 +92,7 @@ module _ (p : Program) (allowed : Allowances) (bases : Bases) (is : IsProgram p)
 
   pub calls_out_here : CallsOut p s t → allowed.lacks_smap t.point ≡ false → AreHere p allowed t homes
   calls_out_here g taken =
-      let call = out_calls p (p.role s.point) g.target in
+      let call = out_calls p s.point g.target in
       let next = call_next_in p is acc s.point t.point r.state r.point r.kept call.0 g.passed g.comes_back in
       let along = edge_in p is acc s.point t.point Next next call.1 in
       moves_here g.core (λ made k. same_home p allowed fine s.point t.point Next along (λ e. let z : ⊥ = cc in z) taken (call_access (p.insn s.point).op (is.calls s.point r.point call.0)) s.core.ac made (top_of homes) k)
@@ -127,7 +128,7 @@ module _ (p : Program) (allowed : Allowances) (bases : Bases) (is : IsProgram p)
       let frames : AreFrames p bases s.point (g.frame ∷ g.below) = subst (λ (x : List Frame). AreFrames p bases s.point x) g.shadow f.frames in
       let i = (inner_of p bases s.point g.call g.frame g.below frames g.called).0 in
       let call : is_call (p.role g.call) ≡ true = (subst (λ (b : Bool). MatchBool b ((g.frame.ra ≡ return_address p bases g.call) × (is_call (p.role g.call) ≡ true)) (g.frame.ra ≡ point_address p bases g.call)) g.ready.of_call i.goes_back).1 in
-      let back : target_may_return p (p.role g.call) ≡ true = comes_back_to p is s t r.point g (i.comes_back g.ready.of_call) in
+      let back : target_may_return p g.call ≡ true = comes_back_to p is s t r.point g (i.comes_back g.ready.of_call) in
       let next = call_next_in p is acc g.call t.point i.call_kept.state i.point i.call_kept.kept call g.passed g.comes_back in
       let along = edge_in p is acc g.call t.point Next next back in
       let both = opened g.frame g.below g.shadow in

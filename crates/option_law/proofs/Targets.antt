@@ -1,25 +1,22 @@
 -- Where calls and jumps to other functions lead, with user access on.
-use Rattle.std.proofs.Common.{◌≡◌, ℕ, Bool, true, false, Option, Some, None, Contains, ℤ, refl, sym, ap, ◌∙◌, subst, inl, inr}
+use Rattle.std.proofs.Common.{◌≡◌, ℕ, Bool, true, false, Option, Some, None, Contains, ℤ, refl, sym, ap, subst, inl, inr}
 use Rattle.ot_base.specs.declared.place.Place.{Place}
 use Rattle.machine_defs.specs.declared.flow.Edge.{Edge}
 use Rattle.machine_defs.specs.declared.flow.EdgeKind.TheVariants.{Sibling}
 use Rattle.machine_defs.specs.declared.flow.Role.{Role}
 use Rattle.machine_defs.specs.declared.flow.Role.TheVariants.{Plain, CallIn, CallEither, CallOut, CallAny, Return, JumpOut, JumpAny, Switch}
 use Rattle.machine_defs.specs.Program.{Program, IsPoint, entry_points, edge}
-use Rattle.state_defs.specs.declared.state.HintState.{HintState}
-use Rattle.machine_defs.specs.Ways.{is_call_hint}
 use Rattle.machine_defs.specs.IsProgram.{IsCallee, IsProgram}
 use Rattle.machine_defs.specs.Step.{may_go_back, IsTarget, JumpsTo, sibling, indirect}
 use Rattle.machine_defs.specs.Kept.{can_go, edges_of}
 use Rattle.machine_defs.specs.Broken.{LeavesByJump}
 use Rattle.machine_defs.specs.Broken as broken
 use Rattle.machine_defs.specs.Allowances.{Allowances, EntersFunctions, is_safe, is_safe_owner}
-use Rattle.machine_defs.specs.Access.{Reached, entered, hinted}
+use Rattle.machine_defs.specs.Access.{Reached, entered, called}
 use Rattle.machine_defs.specs.AccessRules.{CallsUnsafe, Leaves, by_return, by_jump, AccessWarns, call_with_access}
 use Rattle.machine_defs.specs.AccessRules as rules
 use Rattle.option_law.specs.Access.{HasSafeTarget}
 use Rattle.unwinding_law.proofs.Lists.{in_filter}
-use Rattle.unwinding_law.proofs.WaysOn.{called_alone}
 use Rattle.option_law.proofs.Clean.{unless_false}
 
 -- a tail call's edge may be gone along
@@ -57,22 +54,17 @@ module _ (p : Program) (allowed : Allowances) (is : IsProgram p) (functions : En
       let same : is_safe p allowed q ≡ is_safe p allowed entry = ap (is_safe_owner allowed) (functions.arrivals entry q c d).1 in
       subst (λ (x : Bool). Reached p allowed q x x) (sym same) (entered q entry c d taken)
 
-  -- and so does what is called by code of no function, where a hint tells that it is reached with user access off
+  -- and so does what is called of code of no function, where a hint tells that it is reached with user access off
   none_is_safe : (o : Option ℕ) → o ≡ None → is_safe_owner allowed o ≡ false
   none_is_safe None e = refl
   none_is_safe (Some function) e = absurd (let k : ⊥ = cc in k)
 
-  hint_there : (h : Option HintState) → is_call_hint h ≡ true → (x : HintState) × (h ≡ Some x)
-  hint_there None e = absurd (let k : ⊥ = cc in k)
-  hint_there (Some x) e = (x, refl)
-
   pub reached_callee : (a entry q : ℕ) → IsCallee p a entry → Contains (entry_points p entry) q → allowed.lacks_smap q ≡ false → Reached p allowed q (is_safe p allowed entry) (is_safe p allowed entry)
   reached_callee a entry q (inl c) d taken = entered q entry c d taken
   reached_callee a entry q (inr may) d taken =
-      let hint = hint_there (p.hint entry) may.hinted in
       let off : is_safe p allowed entry ≡ false = none_is_safe (p.owner entry) may.of_none in
-      let there : Reached p allowed entry false false = hinted entry hint.0 may.point hint.1 may.of_none in
-      subst (λ (x : Bool). Reached p allowed q x x) (sym off) (subst (λ (x : ℕ). Reached p allowed x false false) (sym (called_alone p is a entry q may d)) there)
+      let told = may.hinted q d in
+      subst (λ (x : Bool). Reached p allowed q x x) (sym off) (called q (is.arrivals (p.place entry) q d) told.1 told.0 taken)
 
   module _ (fine : (place : Place) (rule : ℕ) (a b : ℤ) → AccessWarns p allowed place rule a b → ⊥) (q : ℕ) (home : Bool) (point : IsPoint p q) (on : Reached p allowed q true home) where
     none_unsafe : (callee : ℤ) → CallsUnsafe p allowed q callee → ⊥

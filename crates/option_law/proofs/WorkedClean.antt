@@ -11,7 +11,7 @@ use Rattle.machine_defs.specs.Program.{edge, is_call_op}
 use Rattle.machine_defs.specs.Kept.{can_go}
 use Rattle.machine_defs.specs.Broken.{IsBroken, always, unreachable, without_frame}
 use Rattle.machine_defs.specs.Allowances.{is_safe}
-use Rattle.machine_defs.specs.Access.{access_along, Reached, entered, hinted}
+use Rattle.machine_defs.specs.Access.{access_along, Reached, entered, hinted, called}
 use Rattle.machine_defs.specs.Access as access
 use Rattle.machine_defs.specs.AccessRules.{CallsUnsafe, Leaves, by_return, by_jump, AccessWarns}
 use Rattle.machine_defs.specs.AccessRules as rules
@@ -58,7 +58,8 @@ reached q now home (entered q2 entry c d taken) = subst (λ (x : ℕ). IsThere x
     at : (0 ≡ entry) ⊎ (7 ≡ entry) → IsThere entry (is_safe worked allowed entry) (is_safe worked allowed entry)
     at (inl e) = subst (λ (x : ℕ). IsThere x (is_safe worked allowed x) (is_safe worked allowed x)) e (record { access = refl; at_home = refl })
     at (inr e) = subst (λ (x : ℕ). IsThere x (is_safe worked allowed x) (is_safe worked allowed x)) e (record { access = refl; at_home = refl })
-reached q now home (hinted q2 hint point h free) = absurd (let k : ⊥ = cc in k)
+reached q now home (hinted q2 point own free) = absurd (let k : ⊥ = cc in k)
+reached q now home (called q2 point hint free taken) = absurd (let k : ⊥ = cc in k)
 reached q now home (access.along a before home2 e r c other taken) =
     let h = reached a before home r in
     let f = along (Follows a) a (follows a) e (from_filter (λ (e : Edge). can_go worked a e.kind) (worked.goes a) e c).0 taken in
@@ -111,9 +112,9 @@ keeps_access place rule a b (rules.call_with_access q home callee r c) = calls_s
 keeps_access place rule a b (rules.return_with_access q r l) = let h = reached q true false r in let e : true ≡ false = h.access ∙ (leaves q l ∙ sym h.at_home) in cc
 keeps_access place rule a b (rules.return_without_access q r l) = let h = reached q false true r in let e : false ≡ true = h.access ∙ (leaves q l ∙ sym h.at_home) in cc
 keeps_access place rule a b (rules.on_twice q home r e) = let h = reached q true home r in let k : true ≡ false = h.access ∙ at_stac q (ap is_stac e) in cc
-keeps_access place rule a b (rules.off_twice q r e) = let h = reached q false false r in let k : false ≡ true = h.access ∙ (at_clac q (ap is_clac e)).0 in cc
+keeps_access place rule a b (rules.off_twice q owner r owned e) = let h = reached q false false r in let k : false ≡ true = h.access ∙ (at_clac q (ap is_clac e)).0 in cc
 keeps_access place rule a b (rules.safe_turns_off q now r e) = let h = reached q now true r in let k : true ≡ false = h.at_home ∙ (at_clac q (ap is_clac e)).1 in cc
-keeps_access place rule a b (rules.popf q now home r e) = no_popf q (ap is_popf e)
+keeps_access place rule a b (rules.popf q home r e) = no_popf q (ap is_popf e)
 
 -- its call has a frame, there is no indirect branch, and its returns are listed
 call_framed : (q : ℕ) → is_call_op (worked.insn q).op ≡ true → IfSome (state_of q) (λ s. call_rule s ≡ None)
@@ -132,6 +133,6 @@ keeps_stack place rule a b (without_frame q s asked kept call other h) = no_rule
 
 pub clean : IsClean worked allowed options
 clean place rule a b (of_stack place2 rule2 a2 b2 broken) = keeps_stack place rule a b broken
-clean place rule a b (indirect_branch q asked point branch n) = no_indirect q branch
-clean place rule a b (naked_return q asked point return n) = let e = listed q return in cc
+clean place rule a b (indirect_branch q asked point branch n early) = no_indirect q branch
+clean place rule a b (naked_return q asked point return n early) = let e = listed q return in cc
 clean place rule a b (of_access place2 rule2 a2 b2 asked w) = keeps_access place rule a b w

@@ -8,7 +8,7 @@ use Rattle.machine_defs.specs.declared.flow.EdgeKind.TheVariants.{Next, Sibling}
 use Rattle.machine_defs.specs.declared.flow.Role.{Role}
 use Rattle.machine_defs.specs.declared.flow.Role.TheVariants.{CallIn, CallEither, Return, JumpOut, JumpAny}
 use Rattle.state_defs.specs.Effect.{HasSignedNumber}
-use Rattle.machine_defs.specs.Program.{TextSection, below, entry_points, is_call, is_call_op, edge, Site, in_site}
+use Rattle.machine_defs.specs.Program.{TextSection, below, entry_points, is_call, is_call_op, edge}
 use Rattle.machine_defs.specs.MayReturn.{MayReturn}
 use Rattle.machine_defs.specs.MayReturn as may
 use Rattle.machine_defs.specs.IsProgram.{IsProgram}
@@ -18,7 +18,7 @@ use Rattle.unwinding_law.specs.Worked.{place_at, base}
 use Rattle.unwinding_law.proofs.Elements.{each, none, one, two}
 use Rattle.unwinding_law.proofs.Lists.{here, cases, nowhere, from_filter, from_below}
 use Rattle.unwinding_law.proofs.WorkedProgram.{never, is_jump, is_imm_or_switch, is_iret}
-use Rattle.option_law.specs.Worked.{point, worked, site}
+use Rattle.option_law.specs.Worked.{point, worked}
 
 -- what holds of all edges of a point
 pub along : (P : Edge → Type 0) (q : ℕ) → All P (worked.goes q) → (e : Edge) → Contains (worked.goes q) e → P e
@@ -126,21 +126,26 @@ call_next q r e c = go (subst (λ (x : ℕ). Contains (worked.after x) r) there_
     go : Contains (4 ∷ []) r → Contains (worked.goes q) (edge r Next)
     go d = elim (cases 4 [] r d) [ inl k ↦ subst (λ (x : ℕ). Contains (worked.goes x) (edge r Next)) (sym there_is) (subst (λ (x : ℕ). Contains (worked.goes 3) (edge x Next)) k (here (edge 4 Next) [])) | inr k ↦ nowhere r k ]
 
--- outside its site control that comes to a plain point stands there
-alone : (q r : ℕ) → Contains (q ∷ []) r → r ≡ q
-alone q r c = elim (cases q [] r c) [ inl e ↦ sym e | inr d ↦ nowhere r d ]
-
+-- control that comes to a plain point stands in code of its owner
 abbrev StandsAt : ℕ → Type 0
-StandsAt q = worked.variant q ≡ 0 → ((s : Site) → Contains worked.sites s → in_site s (worked.place q) ≡ false) → (r : ℕ) → Contains (entry_points worked q) r → r ≡ q
+StandsAt q = worked.variant q ≡ 0 → (r : ℕ) → Contains (entry_points worked q) r → worked.owner r ≡ worked.owner q
 
-in_its_site : StandsAt 2
-in_its_site v out r c = absurd (let k : true ≡ false = out site (here site []) in let z : ⊥ = cc in z)
+alone : (q r : ℕ) → Contains (q ∷ []) r → worked.owner r ≡ worked.owner q
+alone q r c = elim (cases q [] r c) [ inl e ↦ ap (λ (x : ℕ). worked.owner x) (sym e) | inr d ↦ nowhere r d ]
+
+at_site : StandsAt 2
+at_site v r c = elim (cases 2 (9 ∷ []) r c) [
+  | inl e ↦ ap (λ (x : ℕ). worked.owner x) (sym e)
+  | inr d ↦ elim (cases 9 [] r d) [ inl e ↦ ap (λ (x : ℕ). worked.owner x) (sym e) | inr none ↦ nowhere r none ]
+]
 
 of_replacement : {P : Type 0} → ◌≡◌ {A = ℕ} 1 0 → P
 of_replacement e = absurd (omega (arith, e))
 
 stands : (q : ℕ) → StandsAt q
-stands = each StandsAt (λ v out r c. alone 0 r c) (λ v out r c. alone 1 r c) in_its_site (λ v out r c. alone 3 r c) (λ v out r c. alone 4 r c) (λ v out r c. alone 5 r c) (λ v out r c. alone 6 r c) (λ v out r c. alone 7 r c) (λ v out r c. alone 8 r c) (λ v out r c. of_replacement v) (λ v out r c. nowhere r c) (λ q v out r c. nowhere r c)
+stands =
+    each StandsAt (λ v r c. alone 0 r c) (λ v r c. alone 1 r c) at_site (λ v r c. alone 3 r c) (λ v r c. alone 4 r c) (λ v r c. alone 5 r c) (λ v r c. alone 6 r c) (λ v r c. alone 7 r c) (λ v r c. alone 8 r c)
+    (λ v r c. of_replacement v) (λ v r c. nowhere r c) (λ q v r c. nowhere r c)
 
 -- so it is a program
 pub program : IsProgram worked
@@ -152,7 +157,7 @@ program = record {
   checked = λ q e point u c k. refl;
   unowned = λ q point e. refl;
   entries_checked = λ entry q c d. refl;
-  arrives_alone = λ q r point v out c. stands q v out r c;
+  arrives_owned = λ q r point v c. (stands q v r c, refl);
   calls_entry = λ q entry point e. inl (call_in q entry e);
   calls_weak_entry = λ q entry symbol point e. absurd (let k : CallEither entry symbol ≡ CallIn 7 = role_there q (CallEither entry symbol) refl e in let m : ⊥ = cc in m);
   siblings = λ q r point c. absurd (no_tail q r c);

@@ -6,7 +6,7 @@ use Rattle.state_defs.specs.Region.{byte_at, IsBeside}
 use Rattle.state_defs.specs.Frame.{Unsaved, SavedAt, Frame}
 use Rattle.state_defs.specs.Effect.{IsInStack}
 use Rattle.machine_defs.specs.Machine.{At}
-use Rattle.machine_defs.specs.Step.{call_frame, goes_on, calls_in, returns}
+use Rattle.machine_defs.specs.Step.{call_frame, is_firm, goes_on, calls_in, returns}
 use Rattle.machine_defs.specs.Run.{Start}
 use Rattle.machine_defs.specs.Run as run
 use Rattle.unwinding_law.specs.Worked.{base}
@@ -60,20 +60,21 @@ pushes =
       local = refl;
       along = (0, lit< tt, refl);
       effect = (record { only = record { addresses = record { lo = refl; size = refl }; others = λ address h. refl }; word = refl }, refl);
-      level = record { ended = refl; mark = refl };
+      ended = is_firm refl refl;
+      mark = refl;
     }) refl)
     refl (after_others _ _ _ _ refl) refl (in_zeros 0x8008 0 false after_push.core.shadow (lit≤ tt) (lit≤ tt) (lit< tt))
 
 moves : AccessRun worked allowed base (At at_stac) (false ∷ [])
 moves =
     stepped (At after_push) (At at_stac) (false ∷ []) (false ∷ []) pushes
-    (goes_on after_push at_stac at_stac (record { kind = Next; local = refl; along = (1, lit< tt, refl); effect = refl; level = record { ended = refl; mark = refl } }) refl)
+    (goes_on after_push at_stac at_stac (record { kind = Next; local = refl; along = (1, lit< tt, refl); effect = refl; ended = is_firm refl refl; mark = refl }) refl)
     refl (after_others _ _ _ _ refl) refl (in_zeros 0x8008 0x8008 false at_stac.core.shadow (lit≤ tt) (lit≤ tt) (lit< tt))
 
 pub turns_on : AccessRun worked allowed base (At at_call) (false ∷ [])
 turns_on =
     stepped (At at_stac) (At at_call) (false ∷ []) (false ∷ []) moves
-    (goes_on at_stac at_call at_call (record { kind = Next; local = refl; along = (0, lit< tt, refl); effect = refl; level = record { ended = refl; mark = refl } }) refl)
+    (goes_on at_stac at_call at_call (record { kind = Next; local = refl; along = (0, lit< tt, refl); effect = refl; ended = is_firm refl refl; mark = refl }) refl)
     refl (after_others _ _ _ _ refl) refl (in_zeros 0x8008 0x8008 true at_call.core.shadow (lit≤ tt) (lit≤ tt) (lit< tt))
 
 pub calls : AccessRun worked allowed base (At in_g) (true ∷ false ∷ [])

@@ -2,7 +2,6 @@
 use Rattle.std.proofs.Common.{◌≡◌, ℕ, zero, suc, ◌<◌, Bool, true, false, if◌then◌else◌, List, [], Option, Some, None, Ok, Err, IfSome, Contains, All, filter, ℤ, refl, sym, ap, ◌∙◌, subst, inl, inr, arith}
 use Rattle.std.proofs.lemmas.List.Elements.{All-contains}
 use Rattle.ot_base.specs.declared.place.Place.{Place}
-use Rattle.operation_defs.specs.declared.op.Op.{Op}
 use Rattle.machine_defs.specs.declared.flow.Edge.{Edge}
 use Rattle.machine_defs.specs.declared.flow.EdgeKind.{EdgeKind}
 use Rattle.machine_defs.specs.declared.flow.EdgeKind.TheVariants.{Next, Sibling}
@@ -12,7 +11,7 @@ use Rattle.state_defs.specs.Move.{move}
 use Rattle.state_defs.specs.Row.{row_of, unfit_offset}
 use Rattle.state_defs.specs.Rules.{return_rule}
 use Rattle.machine_defs.specs.Program.{Site, in_site, below, edge}
-use Rattle.machine_defs.specs.Kept.{can_go, brought_along, Brings, brought_from, brought, is_at_entry, first_state, later_state, kept_or, state_at, Kept}
+use Rattle.machine_defs.specs.Kept.{moved_at, can_go, brought_along, Brings, brought_from, brought, is_at_entry, first_state, later_state, kept_or, state_at, Kept}
 use Rattle.machine_defs.specs.Broken.{LeavesByJump, sibling, outside, anywhere, KeptInSite, IsAccepted, Warns}
 use Rattle.machine_defs.specs.Broken as broken
 use Rattle.unwinding_law.proofs.Elements.{each, none, one, two}
@@ -24,16 +23,16 @@ use Rattle.option_law.specs.Worked.{site, worked, state_of, pushed, framed}
 use Rattle.option_law.proofs.WorkedProgram.{along, no_jump, no_imm_or_switch, no_iret, no_tail, program}
 
 -- what the state of a point, if it has one, is brought along an edge as
-abbrev brought_as : Option State → Op → EdgeKind → List State
-brought_as None op kind = []
-brought_as (Some s) op kind = brought_along s op kind
+abbrev brought_as : Option State → ℕ → EdgeKind → List State
+brought_as None a kind = []
+brought_as (Some s) a kind = brought_along s (moved_at worked a s) kind
 
 -- an edge brings the state that is kept where it leads, and a Next stays with its owner
 abbrev IsState : ℕ → State → Type 0
 IsState q s = state_of q ≡ Some s
 
 record IsRight (a : ℕ) (e : Edge) : Type 0 where
-  states : All (IsState e.to) (brought_as (state_of a) (worked.insn a).op e.kind)
+  states : All (IsState e.to) (brought_as (state_of a) a e.kind)
   owner : worked.owner e.to ≡ worked.owner a
 
 right : (a : ℕ) → All (IsRight a) (worked.goes a)
@@ -56,8 +55,8 @@ right_edge a e c = along (IsRight a) a (right a) e (from_filter (λ (e : Edge). 
 brought_state : (a q : ℕ) (s t : State) → state_of a ≡ Some s → Brings worked a s q t → state_of q ≡ Some t
 brought_state a q s t e brings =
     let r = brings_edge worked a q s t brings in
-    let all : All (IsState (r.0).to) (brought_as (Some s) (worked.insn a).op (r.0).kind) = subst (λ (o : Option State). All (IsState (r.0).to) (brought_as o (worked.insn a).op (r.0).kind)) e (right_edge a r.0 r.1).states in
-    subst (λ (x : ℕ). state_of x ≡ Some t) r.2 (All-contains (IsState (r.0).to) (brought_along s (worked.insn a).op (r.0).kind) t all r.3)
+    let all : All (IsState (r.0).to) (brought_as (Some s) a (r.0).kind) = subst (λ (o : Option State). All (IsState (r.0).to) (brought_as o a (r.0).kind)) e (right_edge a r.0 r.1).states in
+    subst (λ (x : ℕ). state_of x ≡ Some t) r.2 (All-contains (IsState (r.0).to) (brought_along s (moved_at worked a s) (r.0).kind) t all r.3)
 
 -- at level 0
 first : (q : ℕ) (s : State) → first_state worked q (worked.hint q) ≡ Some s → state_of q ≡ Some s

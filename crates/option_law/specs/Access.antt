@@ -1,11 +1,10 @@
 -- The promise of `uaccess`: user access is off wherever a function is called that isn't listed as safe, and each function
 -- leaves it as it found it.
-use Rattle.std.specs.Prelude.{◌≡◌, ℕ, Bool, true, false, List, [], ◌∷◌, Some, None, Contains, IsTrue}
+use Rattle.std.specs.Prelude.{◌≡◌, ℕ, Bool, true, false, List, [], ◌∷◌, None, Contains, IsTrue}
 use Rattle.ot_base.specs.declared.options.Options.{Options}
 use Rattle.machine_defs.specs.declared.flow.EdgeKind.TheVariants.{Sibling}
 use Rattle.machine_defs.specs.declared.flow.Role.{Role}
 use Rattle.machine_defs.specs.declared.flow.Role.TheVariants.{Plain, CallIn, CallEither, CallOut, CallAny, Return, JumpOut, JumpAny, Switch}
-use Rattle.state_defs.specs.declared.state.HintState.{HintState}
 use Rattle.state_defs.specs.Frame.{Frame}
 use Rattle.state_defs.specs.Effect.{IsInStack}
 use Rattle.machine_defs.specs.Program.{Program, entry_points, edge}

@@ -1,6 +1,6 @@
 -- The promises of `retpoline` and `rethunk`: no run comes to an indirect branch, or to a return, that isn't listed as safe, but in
 -- code that runs before user space does (`.init.text` of an object that is no part of a module).
-use Rattle.std.specs.Prelude.{◌≡◌, true}
+use Rattle.std.specs.Prelude.{◌≡◌, true, false}
 use Rattle.ot_base.specs.declared.options.Options.{Options}
 use Rattle.machine_defs.specs.Program.{Program}
 use Rattle.machine_defs.specs.IsProgram.{IsProgram}

@@ -68,11 +68,16 @@ worked = record {
   owner = λ q. (point q).owner;
   unchecked = λ _. false;
   in_patches = λ _. false;
+  loose = λ _. false;
+  uncovered = λ _. false;
   previous = λ q. slice_index_or (None ∷ Some 0 ∷ Some 1 ∷ Some 2 ∷ Some 3 ∷ Some 4 ∷ Some 5 ∷ Some 6 ∷ []) q None;
   hint = λ _. None;
+  own_hint = λ _. false;
   save_of = λ _. None;
   goes = λ q. (point q).goes;
   role = λ q. (point q).role;
+  names = λ _. None;
+  marked_call = λ _. false;
   dead_end = λ _. false;
   marks = λ q. record { bad = false; past_end = slice_index_or (false ∷ false ∷ false ∷ false ∷ false ∷ false ∷ false ∷ false ∷ true ∷ []) q false; into_site = false; into_function = false; relocated = false };
   after = λ q. (point q).after;
@@ -84,18 +89,20 @@ worked = record {
   sites = site ∷ [];
   texts = record { sec = 1; size = 18 } ∷ record { sec = 2; size = 3 } ∷ [];
   unsized = [];
+  linked = false;
 }
 
 -- both returns are listed, and g, symbol 1; the nop is never run on a processor with SMAP
 abbrev pub allowed : Allowances
 allowed = record {
   safe_branch = λ q. slice_index_or (false ∷ false ∷ false ∷ false ∷ false ∷ false ∷ true ∷ true ∷ []) q false;
+  before_user_space = λ _. false;
   safe_name = λ symbol. symbol == 1;
   lacks_smap = λ q. slice_index_or (false ∷ false ∷ true ∷ []) q false;
 }
 
 abbrev pub options : Options
-options = record { fp = true; retpoline = true; rethunk = true; uaccess = true; unreachable = false }
+options = record { fp = true; retpoline = true; rethunk = true; uaccess = true; unreachable = false; link = false; «module» = false }
 
 -- the states that are kept
 abbrev pub pushed : State
