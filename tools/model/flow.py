@@ -12,7 +12,7 @@ from names import Names
 from points import Points
 from returns import returning
 from sites import Point, Sites
-from special import CALL, END_OF_STACK, FUNC, REGS, REGS_PARTIAL, UNDEFINED, Special
+from special import CALL_HINTS, REGS, REGS_PARTIAL, Special
 from tables import JumpTables
 
 NEXT, TAKEN, FIXUP, TABLE, SIBLING = "Next", "Taken", "Fixup", "Table", "Sibling"
@@ -221,7 +221,7 @@ class Flow(Points):
 
     def _may_be_called(self, point: Point) -> bool:
         hint = self.hint(point)
-        return self.owner[point] is None and hint is not None and hint.kind in (UNDEFINED, END_OF_STACK, CALL, FUNC)
+        return self.owner[point] is None and hint is not None and hint.kind in CALL_HINTS
 
     def _is_gate(self, place: Place) -> bool:
         """Whether code of no function stands there, at which a hint tells an interrupt's frame."""

@@ -14,6 +14,8 @@ from texts import Refused
 
 NAMING = (R_64, R_PC32, R_32, R_32S)
 UNDEFINED, END_OF_STACK, CALL, REGS, REGS_PARTIAL, FUNC, SAVE, RESTORE = range(8)
+# Those that tell a call's frame, or end the stack.
+CALL_HINTS = (UNDEFINED, END_OF_STACK, CALL, FUNC)
 SP = 5
 
 

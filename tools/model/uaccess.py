@@ -3,6 +3,7 @@
 from typing import NamedTuple, Optional
 
 from sites import Site
+from special import CALL_HINTS
 
 # The feature of alternatives that put stac and clac in place.
 SMAP = 308
@@ -41,6 +42,9 @@ def reached(flow) -> set[Access]:
         on = is_safe(flow, flow.functions.at_start[entry])
         starts.update(Access(point, on, on) for point in flow.sites.arrive(entry) if is_followed(flow, point))
     starts.update(Access(point, False, False) for point in flow.own_hints if flow.owner[point] is None)
+    # A call of code of no function may come to a replacement for which the hint where its site starts counts.
+    called = [point for point, hint in flow.hint_at.items() if hint.kind in CALL_HINTS and flow.owner[point] is None]
+    starts.update(Access(point, False, False) for point in called if is_followed(flow, point))
     found, waiting = set(starts), list(starts)
     while waiting:
         access = waiting.pop()
