@@ -10,7 +10,7 @@ use Rattle.state_defs.specs.declared.state.State.{State}
 use Rattle.state_defs.specs.Rules.{depth_number}
 use Rattle.machine_defs.specs.Program.{Program, IsPoint}
 use Rattle.machine_defs.specs.IsProgram.{HintsStandAtPoints}
-use Rattle.machine_defs.specs.Kept.{Brings, Kept, brought_along, edges_of, is_free}
+use Rattle.machine_defs.specs.Kept.{Brings, Kept, brought_along, edges_of, is_free, moved_at}
 use Rattle.unwinding_law.proofs.Lists.{here, cases, nowhere}
 use Rattle.unwinding_law.proofs.KeptPoints.{kept_are_points}
 use Rattle.unwinding_law.proofs.KeptStates.{brings_edge}
@@ -40,21 +40,21 @@ module _ (p : Program) (parts : GraphParts) (states : ℕ → Option State) (tol
   pub none_free : is_free (p.hint e.to) ≡ false → (w : Warning) → IsClash p w (clash_of a e) → ⊥
   none_free isnt w c = let k : is_free (p.hint e.to) ≡ true = c.free in cc
 
-  along_of : (s : State) → states a ≡ Some s → (o : Option State) → option_to_list o ≡ brought_along s (p.insn a).op e.kind → (w : Warning) (c : IsClash p w (clash_of a e)) → o ≡ Some c.brought
+  along_of : (s : State) → states a ≡ Some s → (o : Option State) → option_to_list o ≡ brought_along s (moved_at p a s) e.kind → (w : Warning) (c : IsClash p w (clash_of a e)) → o ≡ Some c.brought
   along_of s from o is w c =
       let x : Some c.before ≡ Some s = sym (from_is w c) ∙ from in
       let same : c.before ≡ s = cc in
-      in_it o (subst (λ (xs : List State). Contains xs c.brought) (sym is) (subst (λ (z : State). Contains (brought_along z (p.insn a).op e.kind) c.brought) same c.along))
+      in_it o (subst (λ (xs : List State). Contains xs c.brought) (sym is) (subst (λ (z : State). Contains (brought_along z (moved_at p a z) e.kind) c.brought) same c.along))
     where
       in_it : {t : State} (o : Option State) → Contains (option_to_list o) t → o ≡ Some t
       in_it None m = nowhere _ m
       in_it (Some u) m = elim (cases u [] _ m) [ inl k ↦ ap Some k | inr n ↦ nowhere _ n ]
 
   -- nor one that brings none
-  pub none_along : (s : State) → states a ≡ Some s → (o : Option State) → o ≡ None → option_to_list o ≡ brought_along s (p.insn a).op e.kind → (w : Warning) → IsClash p w (clash_of a e) → ⊥
+  pub none_along : (s : State) → states a ≡ Some s → (o : Option State) → o ≡ None → option_to_list o ≡ brought_along s (moved_at p a s) e.kind → (w : Warning) → IsClash p w (clash_of a e) → ⊥
   none_along s from o none is w c = let k : o ≡ Some c.brought = along_of s from o is w c in cc
 
-  module _ (s other brought : State) (from : states a ≡ Some s) (to : states e.to ≡ Some other) (is : option_to_list (Some brought) ≡ brought_along s (p.insn a).op e.kind) where
+  module _ (s other brought : State) (from : states a ≡ Some s) (to : states e.to ≡ Some other) (is : option_to_list (Some brought) ≡ brought_along s (moved_at p a s) e.kind) where
     brought_is : (w : Warning) (c : IsClash p w (clash_of a e)) → c.brought ≡ brought
     brought_is w c = let k : Some brought ≡ Some c.brought = along_of s from (Some brought) is w c in cc
 

@@ -3,14 +3,13 @@ use Rattle.std.proofs.Common.{◌≡◌, ◌↔◌, ℕ, ◌+◌, ◌<◌, ◌�
 use Rattle.std.specs.Prelude.{option_to_list, OnOk, Result, Ok, Err}
 use Rattle.std.proofs.lemmas.Bool.{cases_lt}
 use Rattle.std.proofs.lemmas.List.{get_or_default}
-use Rattle.operation_defs.specs.declared.op.Op.{Op}
 use Rattle.machine_defs.specs.declared.flow.Edge.{Edge}
 use Rattle.state_defs.specs.declared.state.State.{State}
 use Rattle.state_defs.specs.declared.state.HintState.{HintState}
 use Rattle.state_defs.specs.declared.state.HintState.TheVariants.{Set, Save, Restore}
 use Rattle.state_defs.specs.State.{initial}
 use Rattle.machine_defs.specs.Program.{Program}
-use Rattle.machine_defs.specs.Kept.{brought_along, edges_of, first_state, is_at_entry, is_free, state_at}
+use Rattle.machine_defs.specs.Kept.{brought_along, edges_of, first_state, is_at_entry, is_free, moved_at, state_at}
 use Rattle.unwinding_law.proofs.Lists.{here, cases, nowhere}
 use Rattle.state_ways.specs.declared.steps.WayKind.TheVariants.{Entry, Hint}
 use Rattle.state_ways.specs.declared.steps.WayStep.{WayStep}
@@ -23,15 +22,15 @@ in_option None t = (λ e. absurd (let k : ⊥ = cc in k), λ c. nowhere t c)
 in_option (Some s) t = (λ e. (let k : s ≡ t = cc in subst (λ (z : State). Contains (z ∷ []) t) (sym k) (here t [])), λ c. elim (cases s [] t c) [ inl e ↦ ap Some e | inr n ↦ nowhere t n ])
 
 -- an edge brings to a kept point the state that it keeps
-pub brings_is : (p : Program) (states : ℕ → Option State) (a : ℕ) (e : Edge) (s other : State) (brought : Option State) (op : Op) → states a ≡ Some s → states e.to ≡ Some other → is_free (p.hint e.to) ≡ true → op ≡ (p.insn a).op → option_to_list brought ≡ brought_along s op e.kind → (brought ≡ Some other) ↔ BringsKept p states a e
-brings_is p states a e s other brought op from to free same is = (λ h. record { state = s; brought = other; from = from; to = to; free = free; along = subst (λ (o : Op). Contains (brought_along s o e.kind) other) same (subst (λ (xs : List State). Contains xs other) is ((in_option brought other).0 h)) }, λ b. back b)
+pub brings_is : (p : Program) (states : ℕ → Option State) (a : ℕ) (e : Edge) (s other : State) (brought : Option State) → states a ≡ Some s → states e.to ≡ Some other → is_free (p.hint e.to) ≡ true → option_to_list brought ≡ brought_along s (moved_at p a s) e.kind → (brought ≡ Some other) ↔ BringsKept p states a e
+brings_is p states a e s other brought from to free is = (λ h. record { state = s; brought = other; from = from; to = to; free = free; along = subst (λ (xs : List State). Contains xs other) is ((in_option brought other).0 h) }, λ b. back b)
   where
     back : BringsKept p states a e → brought ≡ Some other
     back b =
         let k : b.state ≡ s = (let x : Some b.state ≡ Some s = sym b.from ∙ from in cc) in
         let l : b.brought ≡ other = (let x : Some b.brought ≡ Some other = sym b.to ∙ to in cc) in
-        let c : Contains (brought_along s (p.insn a).op e.kind) other = subst (λ (z : State). Contains (brought_along s (p.insn a).op e.kind) z) l (subst (λ (z : State). Contains (brought_along z (p.insn a).op e.kind) b.brought) k b.along) in
-        (in_option brought other).1 (subst (λ (xs : List State). Contains xs other) (sym is) (subst (λ (o : Op). Contains (brought_along s o e.kind) other) (sym same) c))
+        let c : Contains (brought_along s (moved_at p a s) e.kind) other = subst (λ (z : State). Contains (brought_along s (moved_at p a s) e.kind) z) l (subst (λ (z : State). Contains (brought_along z (moved_at p a z) e.kind) b.brought) k b.along) in
+        (in_option brought other).1 (subst (λ (xs : List State). Contains xs other) (sym is) c)
 
 -- how a way begins
 pub begins_at_hint : (p : Program) (q : ℕ) (s : State) → p.unchecked q ≡ false → p.hint q ≡ Some (Set s) → IsSome (state_at p 0 q) × Way p 0 q (step q Hint ∷ [])

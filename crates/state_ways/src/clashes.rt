@@ -78,7 +78,7 @@ fn mismatch_at(graph: &Graph, kept: &Kept, from: u32, edge: Edge) -> Option<Mism
     if !is_free(graph.hint(edge.to)) {
         return None;
     }
-    let Some(brought) = brought_along(state, graph.insn(from).op, edge.kind) else {
+    let Some(brought) = brought_along(graph, from, state, edge.kind) else {
         return None;
     };
     if is_same(brought, other) {

@@ -4,7 +4,7 @@ ghost use Rattle.std.specs.Prelude.{◌≡◌, ◌≢◌, ◌+◌, ◌<◌, ◌�
 ghost use Rattle.machine_defs.specs.declared.flow.Edge.{Edge as EdgeValue};
 ghost use Rattle.machine_defs.specs.Program.{Program};
 ghost use Rattle.machine_defs.specs.IsProgram.{IsProgram};
-ghost use Rattle.machine_defs.specs.Kept.{AreKeptStates, brought_along as brought_along_edge, edges_of, is_free as is_free_hint, state_at};
+ghost use Rattle.machine_defs.specs.Kept.{AreKeptStates, brought_along as brought_along_edge, edges_of, is_free as is_free_hint, moved_at, state_at};
 ghost use Rattle.program_graph.specs.declared.parts.GraphParts.{GraphParts as GraphPartsValue};
 ghost use Rattle.program_graph.specs.Tells.{Means, Tells};
 ghost use Rattle.kept_states.specs.LevelStates.{at};
@@ -13,12 +13,10 @@ ghost use Rattle.state_ways.specs.Ways.{AreWays, Way, is_turn, step as step_of, 
 
 use crate::steps::{WayKind, way_kind};
 use crate::ways::Ways;
-use kept_states::Kept;
+use kept_states::{Kept, step_at};
 use machine_defs::{Edge, EdgeKind};
-use operation_defs::Op;
 use ot_base::NoMemory;
 use program_graph::Graph;
-use stack_state::step;
 use state_defs::{HintState, State};
 use std::alloc::Global;
 
@@ -46,13 +44,14 @@ pub(crate) fn is_free(hint: Option<HintState>) -> bool
     }
 }
 
-/// What a state is brought along an edge as: to a fixup the state before the instruction, else the one after it; to another
-/// function none.
-pub(crate) fn brought_along(state: State, op: Op, kind: EdgeKind) -> Option<State>
-    ensures { option_to_list result ≡ brought_along_edge state op kind }
+/// What a state of a point is brought along an edge as: to a fixup the state before the instruction, else the one after it; to
+/// another function none.
+pub(crate) fn brought_along(graph: &Graph, from: u32, state: State, kind: EdgeKind) -> Option<State>
+    requires { from < length graph.now.parts.points.items }
+    ensures { (p : Program) → Tells p graph.now.parts → option_to_list result ≡ brought_along_edge state (moved_at p from state) kind }
 {
     match kind {
-        EdgeKind::Next | EdgeKind::Taken | EdgeKind::Table => step(state, op).ok(),
+        EdgeKind::Next | EdgeKind::Taken | EdgeKind::Table => step_at(graph, from, state).ok(),
         EdgeKind::Fixup => Some(state),
         EdgeKind::Sibling => None,
     }
@@ -106,7 +105,7 @@ fn brings_kept(graph: &Graph, kept: &Kept, from: u32, edge: Edge) -> bool
     let Some(other) = kept.state(edge.to) else {
         return false;
     };
-    let brought = brought_along(state, graph.insn(from).op, edge.kind);
+    let brought = brought_along(graph, from, state, edge.kind);
     is_free(graph.hint(edge.to)) && is_brought(brought, other)
 }
 
