@@ -12,7 +12,8 @@ use Rattle.machine_defs.specs.declared.flow.Role.TheVariants.{Plain, CallIn, Cal
 use Rattle.state_defs.specs.declared.state.EndKind.TheVariants.{Undefined}
 use Rattle.state_defs.specs.declared.state.State.TheVariants.{Ended}
 use Rattle.state_defs.specs.declared.state.HintState.TheVariants.{Set}
-use Rattle.machine_defs.specs.Program.{Program, below, edge}
+use Rattle.machine_defs.specs.Program.{Program, Site, below, edge}
+use Rattle.machine_defs.specs.Ways.{MayCall}
 use Rattle.machine_defs.specs.Allowances.{Allowances}
 use Rattle.machine_defs.specs.AccessRules.{AccessWarns}
 use Rattle.machine_defs.specs.Asked.{IsWarned}
@@ -44,7 +45,8 @@ access_points =
     ∷ goes_on 7 Popf Plain 9
     ∷ goes_on 7 CallInd CallAny 10
     ∷ returns 7
-    -- of no function: where a hint stands, and where one counts that stands elsewhere
+    -- of no function: what may be called at a site's start, where a hint stands; its replacement, where that counts; and what
+    -- follows this
     ∷ record { function = None; op = Clac; role = Return; goes = [] }
     ∷ record { function = None; op = Stac; role = Plain; goes = edge 13 Next ∷ [] }
     ∷ record { function = None; op = Stac; role = Return; goes = [] }
@@ -53,20 +55,26 @@ access_points =
 abbrev pub access_point : ℕ → WorkedAccessPoint
 access_point q = slice_index_or access_points q (returns 7)
 
+abbrev pub site : Site
+site = record { start = at 11; len = 1 }
+
 abbrev pub accessed : Program
 accessed = record framed {
   count = 14;
   insn = λ q. insn (access_point q).op 1;
   place = at;
-  address = at;
+  address = λ q. if q == 12 then at 11 else at q;
+  variant = λ q. if q == 12 then 1 else 0;
   function = λ q. (access_point q).function;
   owner = λ q. (access_point q).function;
   hint = λ q. if q == 11 then Some (Set (Ended Undefined)) else (if q == 12 then Some (Set (Ended Undefined)) else None);
   own_hint = λ q. q == 11;
   goes = λ q. (access_point q).goes;
   role = λ q. (access_point q).role;
-  arrive = λ wanted. filter (λ q. same_place (at q) wanted) (below 14);
+  names = λ q. if q == 3 then Some 7 else None;
+  arrive = λ wanted. if same_place (at 11) wanted then 11 ∷ 12 ∷ [] else filter (λ q. same_place (at q) wanted) (below 14);
   entries = 0 ∷ 5 ∷ 7 ∷ [];
+  sites = site ∷ [];
   texts = record { sec = 1; size = 14 } ∷ [];
 }
 
@@ -82,7 +90,8 @@ WarnsOfAccessAt off rule = AccessWarns accessed one_safe (at off) rule (pos 0) (
 
 pub record WarnsWhereAsked : Type 0 where
   pub on_twice : WarnsOfAccessAt 1 ACCESS_ON_TWICE
-  -- what may be called by code elsewhere is followed, though no hint stands at its own place
+  -- a call of code of no function, with user access off, finds the replacement at its site's start, which turns it on
+  pub may_call : MayCall accessed 3 11
   pub on_twice_called : WarnsOfAccessAt 13 ACCESS_ON_TWICE
   -- the third function is called, which isn't safe
   pub call_with_access : AccessWarns accessed one_safe (at 3) CALL_WITH_ACCESS (pos 7) (pos 0)
