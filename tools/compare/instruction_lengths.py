@@ -12,6 +12,8 @@ LINE = re.compile(r"\s*([0-9a-f]+):\t((?:[0-9a-f]{2} )+)\s*(?:\t(.*))?$")
 UNKNOWN = re.compile(r"\(bad\)|^\.byte|^(?:(?:rex\S*|data16|addr32|[c-gs]s|repn?z|lock)\s*)+$")
 PREFIXES = bytes((0x66, 0x67, 0x2E, 0x36, 0x3E, 0x26, 0x64, 0x65, 0xF0, 0xF2, 0xF3, *range(0x40, 0x50)))
 WAIT = 0x9B
+# What stands before instructions that a hypervisor emulates: with them it is one to x86_decode, and a ud2 and others to objdump.
+EMULATED = (b"\x0f\x0bxen", b"\x0f\x0bkvm")
 
 
 def instructions(path: str):
@@ -29,7 +31,8 @@ def instructions(path: str):
             if next_at != end or len(behind) >= 16:
                 break
             behind, end = behind + more, end + len(more)
-        yield len(code), behind[:16], text
+        if not behind.startswith(EMULATED):
+            yield len(code), behind[:16], text
 
 
 def main(program: str, *words: str) -> int:
