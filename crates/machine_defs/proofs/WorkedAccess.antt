@@ -1,5 +1,5 @@
 -- Each reason for a warning that an option asks for.
-use Rattle.std.proofs.Common.{◌≢◌, true, false, zero, suc, ◌∷◌, [], None, Contains, pos, refl, subst, inr, arith, lit<}
+use Rattle.std.proofs.Common.{◌≢◌, true, false, ◌≡◌, ℕ, zero, suc, ◌∷◌, [], None, Contains, pos, refl, subst, inr, arith, lit<}
 use Rattle.ot_base.specs.declared.rules.TheConstants.{ACCESS_OFF_TWICE, POPF_WITH_ACCESS_TRACKED}
 use Rattle.machine_defs.specs.declared.flow.EdgeKind.TheVariants.{Next, Sibling}
 use Rattle.machine_defs.specs.Program.{Site, in_site, edge}
@@ -43,8 +43,8 @@ at_third = entered 7 7 (2, lit< tt, refl) (0, lit< tt, refl) refl
 
 -- a place of no function may be called by a symbol's name, at a site's start
 at_start : (one : Site) → Contains (site ∷ []) one → in_site one (at 11) ≡ true → one.start ≡ at 11
-at_start one (zero, below, is) inside = subst (λ (x : Site). x.start ≡ at 11) is refl
-at_start one (suc k, below, is) inside = absurd (omega (arith, below))
+at_start one (zero, below, is) within = subst (λ (x : Site). x.start ≡ at 11) is refl
+at_start one (suc k, below, is) within = absurd (omega (arith, below))
 
 told_there : (r : ℕ) → Contains (11 ∷ 12 ∷ []) r → (accessed.owner r ≡ None) × (is_call_hint (accessed.hint r) ≡ true)
 told_there r (zero, below, is) = subst (λ (q : ℕ). (accessed.owner q ≡ None) × (is_call_hint (accessed.hint q) ≡ true)) is (refl, refl)
