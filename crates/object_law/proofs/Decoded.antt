@@ -24,7 +24,9 @@ use Rattle.alternatives.specs.Points.{entry_of, insn_of_point, is_padded, paddin
 use Rattle.alternatives.specs.Texts.{insn_at}
 use Rattle.table_law.proofs.Lists.{finds, some_is}
 use Rattle.flow_defs.specs.Code.{alternatives_of, point_at, texts_of}
-use Rattle.flow_defs.specs.Arrival.{around, decoded_insn, insn_of_object, no_insn}
+use Rattle.flow_defs.specs.Arrival.{decoded_insn}
+use Rattle.flow_defs.specs.Decoded.{no_insn}
+use Rattle.flow_defs.specs.Switching.{around_by, insn_by}
 use Rattle.flow_defs.specs.Program.{graph_of, program_of, returning_graph}
 use Rattle.object_law.specs.Flows.{HasBytes}
 use Rattle.object_law.proofs.Signed.{decoded_fits}
@@ -82,10 +84,11 @@ either_fits true one other h k = h
 either_fits false one other h k = k
 
 made_fits : (around : Around) (op : Op) → HasSignedNumber op → HasSignedNumber (made around op)
-made_fits around (ops.Call rel) h = either_fits around.intra_call ops.Hop (ops.Call rel) tt tt
+made_fits around (ops.Call rel) h = either_fits around.returning (ops.Jmp rel true) (cond around.intra_call ops.Hop (ops.Call rel)) tt (either_fits around.intra_call ops.Hop (ops.Call rel) tt tt)
 made_fits around (ops.LeaBpSp by) h = either_fits around.makes_room (ops.LeaBpRoom by) (ops.LeaBpSp by) h h
 made_fits around ops.Iret h = either_fits around.within ops.IretNext ops.Iret tt tt
 made_fits around ops.Switch h = either_fits (around.within && around.hinted) ops.SpOther ops.Switch tt tt
+made_fits around ops.SpOther h = either_fits around.loads_stack ops.BpOther ops.SpOther tt tt
 made_fits around _ h = h
 
 found_fits : (o : Coded) (point : Point) → HasBytes o → HasSignedNumber (decoded_insn o point).op
@@ -98,5 +101,5 @@ found_fits o point are = go (insn_of_point (texts_of o) (alternatives_of o) poin
 
 -- numbers in operations have 64 bits
 pub numbers : (o : Coded) (lists : NameLists) → HasBytes o → (q : ℕ) → IsPoint (program_of o lists) q → HasSignedNumber ((program_of o lists).insn q).op
-unfolding program_of returning_graph graph_of insn_of_object
-numbers o lists are q here = let point = point_at o q in made_fits (around o point) (decoded_insn o point).op (found_fits o point are)
+unfolding program_of returning_graph graph_of insn_by
+numbers o lists are q here = let point = point_at o q in made_fits (around_by o lists point) (decoded_insn o point).op (found_fits o point are)

@@ -1,5 +1,6 @@
 -- The edges of an object in order come into its sites at their starts, or from within.
 use Rattle.std.proofs.Common.{◌≡◌, ℕ, ◌<◌, ◌⊎◌, Bool, true, false, cond, List, [], ◌∷◌, ◌++◌, flat_map, Option, Some, None, Contains, refl, sym, subst, inl, inr}
+use Rattle.std.specs.Prelude.{is_some}
 use Rattle.std.proofs.lemmas.List.Elements.{Contains-append_cases, Contains-append_left, Contains-append_right}
 use Rattle.ot_base.specs.NameLists.{NameLists}
 use Rattle.ot_base.specs.declared.place.Place.{Place}
@@ -24,7 +25,7 @@ use Rattle.flow_defs.specs.Sites.{is_into_site, sites_of}
 use Rattle.flow_defs.specs.Arrival.{after, after_by, arrive, decoded_insn, insn_of_object, next_of_replacement, place_behind}
 use Rattle.flow_defs.specs.Targets.{destination_of}
 use Rattle.flow_defs.specs.Ways.{hop_way, jump_way, listed_way}
-use Rattle.flow_defs.specs.Roles.{table_of_point}
+use Rattle.flow_defs.specs.Roles.{returns_through, table_of_point}
 use Rattle.flow_defs.specs.Edges.{branch_edges, branch_edges_by, edges_to, fixups, goes, goes_on, hop_edges, jump_edges, listed_edges, next_edges, static_targets, table_edges, way_edges}
 use Rattle.flow_defs.specs.Program.{program_of}
 use Rattle.object_law.specs.Flows.{ObjectIsInOrder}
@@ -123,6 +124,14 @@ module _ (o : Coded) (lists : NameLists) (order : ObjectIsInOrder o) (q : ℕ) (
   branch_enters ops.Hop = hop_enters (destination_of o (point_at o q)) refl
   branch_enters _ = none_enter o lists (point_at o q)
 
+  -- a branch that returns through code that returns for its caller has none
+  branch_edges_enter : Enters o lists (point_at o q) (branch_edges o (point_at o q))
+  branch_edges_enter = go (is_some (returns_through o (point_at o q)))
+    where
+      go : (b : Bool) → Enters o lists (point_at o q) (cond b [] (branch_edges_by o (point_at o q) (insn_of_object o (point_at o q)).op))
+      go true = none_enter o lists (point_at o q)
+      go false = branch_enters (insn_of_object o (point_at o q)).op
+
   after_enters : Enters o lists (point_at o q) (edges_to Next (after o (point_at o q)))
   unfolding after
   after_enters = go (next_of_replacement o (point_at o q)) refl
@@ -150,7 +159,7 @@ module _ (o : Coded) (lists : NameLists) (order : ObjectIsInOrder o) (q : ℕ) (
   checked_enter =
       let point = point_at o q in
       both_enter o lists point (next_edges o point) _ next_enters
-      (both_enter o lists point (branch_edges o point) _ (branch_enters (insn_of_object o point).op)
+      (both_enter o lists point (branch_edges o point) _ branch_edges_enter
       (both_enter o lists point (listed_edges o Taken point (static_targets o point)) _ (listed_enter o lists point order Taken (static_targets o point))
       (both_enter o lists point (listed_edges o Fixup point (fixups o point)) (table_edges o point) (listed_enter o lists point order Fixup (fixups o point)) (table_enters o lists point order))))
 

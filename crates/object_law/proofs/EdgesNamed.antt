@@ -1,10 +1,11 @@
 -- The edges of a point that runs in a section in which a symbol is defined lead to points that run in such sections.
-use Rattle.std.proofs.Common.{◌≡◌, ℕ, Bool, true, false, ◌&&◌, cond, List, [], ◌∷◌, ◌++◌, map, Option, Some, None, Contains, refl, sym, subst, inl, inr}
-use Rattle.std.specs.Prelude.{filter, length, nat_lt, option_and_then, take_while, ◌*◌}
+use Rattle.std.proofs.Common.{◌≡◌, ℕ, Bool, true, false, ◌&&◌, cond, List, [], ◌∷◌, ◌++◌, map, Option, Some, None, Contains, refl, sym, ap, ◌∙◌, subst, inl, inr}
+use Rattle.std.specs.Prelude.{filter, is_some, length, nat_lt, option_and_then, take_while, ◌*◌}
 use Rattle.std.specs.List.{range_with_len}
 use Rattle.std.proofs.lemmas.Bool.{eqb-true}
 use Rattle.std.proofs.lemmas.List.Elements.{Contains-append_cases}
 use Rattle.std.proofs.lemmas.List.Sums.{take_while-cons}
+use Rattle.ot_base.specs.NameLists.{NameLists}
 use Rattle.ot_base.specs.declared.place.Place.{Place}
 use Rattle.ot_base.specs.Places.{same_place}
 use Rattle.operation_defs.specs.declared.op.Op.{Op}
@@ -16,6 +17,7 @@ use Rattle.elf_objects.specs.Contents.{relocs_at}
 use Rattle.machine_defs.specs.declared.flow.Edge.{Edge}
 use Rattle.machine_defs.specs.declared.flow.EdgeKind.{EdgeKind}
 use Rattle.machine_defs.specs.declared.flow.EdgeKind.TheVariants.{Next, Taken, Fixup, Table}
+use Rattle.machine_defs.specs.Program.{Site}
 use Rattle.symbols_relocs.specs.NamedPlaces.{place_named}
 use Rattle.symbols_relocs.specs.Parts.{owner_at}
 use Rattle.special_sections.specs.declared.entries.BranchEntry.{BranchEntry}
@@ -32,11 +34,11 @@ use Rattle.flow_defs.specs.declared.destination.Way.{Way}
 use Rattle.flow_defs.specs.declared.destination.Way.TheVariants as ways
 use Rattle.flow_defs.specs.Code.{alternatives_of, is_plain, numbers_of, point_at, texts_of}
 use Rattle.flow_defs.specs.Owners.{is_unchecked_point, owner_of_point}
-use Rattle.flow_defs.specs.Sites.{is_into_site}
-use Rattle.flow_defs.specs.Arrival.{after, after_by, arrive, decoded_insn, insn_of_object, is_padding, next_of_replacement, place_behind, site_end}
+use Rattle.flow_defs.specs.Sites.{is_into_site, site_holding}
+use Rattle.flow_defs.specs.Arrival.{after, after_by, arrive, behind_plain, decoded_insn, insn_of_object, is_padding, is_short_nop, next_of_replacement, place_behind, run_from, site_end}
 use Rattle.flow_defs.specs.Targets.{destination_of}
 use Rattle.flow_defs.specs.Ways.{hop_way, jump_way, listed_way}
-use Rattle.flow_defs.specs.Roles.{table_of_point}
+use Rattle.flow_defs.specs.Roles.{returns_through, table_of_point}
 use Rattle.flow_defs.specs.Edges.{branch_edges, branch_edges_by, edges_to, fixups, goes, goes_on, hop_edges, jump_edges, listed_edges, next_edges, static_targets, table_edges, way_edges}
 use Rattle.object_law.proofs.Edges.{checked_edges}
 use Rattle.object_law.proofs.Numbers.{edges_lead, numbers_are}
@@ -147,7 +149,7 @@ module _ (o : Coded) where
         let one = from_flat_map (λ place. way_edges o point place (ways.Along Table)) (table_of_point o point) e c in
         way_leads one.0 (ways.Along Table) (table_is_named o point one.0 one.1) e one.2
 
-    module _ (none : special_faults o.elf ≡ []) where
+    module _ (names : NameLists) (none : special_faults o.elf names ≡ []) where
       static_named : (place : Place) → Contains (static_targets o point) place → IsNamed o place.sec
       static_named place c = go (is_padding o point) c
         where
@@ -155,7 +157,7 @@ module _ (o : Coded) where
           go true c = nowhere place c
           go false c =
               let one = from_map (λ (x : BranchEntry). x.target) (filter (λ (x : BranchEntry). same_place x.code point.place) (special_of o.elf).branches) place c in
-              subst (λ (p : Place). IsNamed o p.sec) one.2 (target_is_named o none one.0 (from_filter (λ (x : BranchEntry). same_place x.code point.place) (special_of o.elf).branches one.0 one.1).0)
+              subst (λ (p : Place). IsNamed o p.sec) one.2 (target_is_named o names none one.0 (from_filter (λ (x : BranchEntry). same_place x.code point.place) (special_of o.elf).branches one.0 one.1).0)
 
       fixups_named : (place : Place) → Contains (fixups o point) place → IsNamed o place.sec
       fixups_named place c = go (is_padding o point) c
@@ -164,7 +166,7 @@ module _ (o : Coded) where
           go true c = nowhere place c
           go false c =
               let one = from_map (λ (x : FixEntry). x.fixup) (filter (λ (x : FixEntry). same_place x.insn point.place) (special_of o.elf).fixes) place c in
-              subst (λ (p : Place). IsNamed o p.sec) one.2 (fixup_is_named o none one.0 (from_filter (λ (x : FixEntry). same_place x.insn point.place) (special_of o.elf).fixes one.0 one.1).0)
+              subst (λ (p : Place). IsNamed o p.sec) one.2 (fixup_is_named o names none one.0 (from_filter (λ (x : FixEntry). same_place x.insn point.place) (special_of o.elf).fixes one.0 one.1).0)
 
     module _ (named : IsNamed o (address_of o point).sec) where
       -- edges to a point of the same replacement
@@ -200,8 +202,16 @@ module _ (o : Coded) where
       behind_named : IsNamed o (place_behind o point).sec
       behind_named = go (is_plain point) refl
         where
-          go : (b : Bool) → is_plain point ≡ b → IsNamed o (cond b (behind point.place (decoded_insn o point).len) (site_end o point)).sec
-          go true e = subst (λ (p : Place). IsNamed o p.sec) (address_plain o point (eqb-true point.variant 0 e)) named
+          of_nop : (b : Bool) (run : ℕ) → (cond b (behind point.place run) (behind point.place (decoded_insn o point).len)).sec ≡ point.place.sec
+          of_nop true run = refl
+          of_nop false run = refl
+
+          of_site : (held : Option Site) → (behind_plain o point.place (decoded_insn o point) held).sec ≡ point.place.sec
+          of_site None = refl
+          of_site (Some site) = of_nop (is_short_nop (decoded_insn o point)) (run_from o point.place site)
+
+          go : (b : Bool) → is_plain point ≡ b → IsNamed o (cond b (behind_plain o point.place (decoded_insn o point) (site_holding o point.place)) (site_end o point)).sec
+          go true e = subst (λ sec. IsNamed o sec) (ap (λ (p : Place). p.sec) (address_plain o point (eqb-true point.variant 0 e)) ∙ sym (of_site (site_holding o point.place))) named
           go false e = subst (λ sec. IsNamed o sec) (replaced_sec o point e) named
 
       after_leads : LeadToNamed o (edges_to Next (after o point))
@@ -219,17 +229,25 @@ module _ (o : Coded) where
           go true = after_leads
           go false = none_lead
 
-      checked_lead : special_faults o.elf ≡ [] → LeadToNamed o (checked_edges o point)
-      checked_lead none =
-          both_lead (next_edges o point) _ next_leads
-          (both_lead (branch_edges o point) _ (branch_leads (insn_of_object o point).op)
-          (both_lead (listed_edges o Taken point (static_targets o point)) _ (listed_lead Taken (static_targets o point) (static_named none))
-          (both_lead (listed_edges o Fixup point (fixups o point)) (table_edges o point) (listed_lead Fixup (fixups o point) (fixups_named none)) table_leads)))
+      -- a branch that returns through code that returns for its caller has no edge
+      branch_edges_lead : LeadToNamed o (branch_edges o point)
+      branch_edges_lead = go (is_some (returns_through o point))
+        where
+          go : (b : Bool) → LeadToNamed o (cond b [] (branch_edges_by o point (insn_of_object o point).op))
+          go true = none_lead
+          go false = branch_leads (insn_of_object o point).op
 
-      pub edges_lead_to_named : special_faults o.elf ≡ [] → LeadToNamed o (goes o point)
+      checked_lead : (names : NameLists) → special_faults o.elf names ≡ [] → LeadToNamed o (checked_edges o point)
+      checked_lead names none =
+          both_lead (next_edges o point) _ next_leads
+          (both_lead (branch_edges o point) _ branch_edges_lead
+          (both_lead (listed_edges o Taken point (static_targets o point)) _ (listed_lead Taken (static_targets o point) (static_named names none))
+          (both_lead (listed_edges o Fixup point (fixups o point)) (table_edges o point) (listed_lead Fixup (fixups o point) (fixups_named names none)) table_leads)))
+
+      pub edges_lead_to_named : (names : NameLists) → special_faults o.elf names ≡ [] → LeadToNamed o (goes o point)
       unfolding goes
-      edges_lead_to_named none = go (is_unchecked_point o point)
+      edges_lead_to_named names none = go (is_unchecked_point o point)
         where
           go : (b : Bool) → LeadToNamed o (cond b [] (checked_edges o point))
           go true = none_lead
-          go false = checked_lead none
+          go false = checked_lead names none

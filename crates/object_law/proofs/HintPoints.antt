@@ -1,6 +1,7 @@
 -- Hints stand at points: section 0 is no text, so that none stands where a number is that of no point.
 use Rattle.std.proofs.Common.{◌≡◌, ◌+◌, ◌*◌, ◌<◌, Bool, true, false, not, ◌&&◌, cond, List, [], ◌∷◌, Option, Some, None, length, reverse, refl, sym, ap, ◌∙◌, subst, inl, inr}
-use Rattle.std.specs.Prelude.{bit_and, nat_lt, option_and_then, slice_index, ◌==◌}
+use Rattle.std.specs.Prelude.{bit_and, nat_lt, option_and_then, ◌==◌}
+use Rattle.std.specs.Option.{option_or}
 use Rattle.std.proofs.lemmas.Bool.{cases_lt, eqb-true, false≢true, not-false}
 use Rattle.std.proofs.lemmas.List.{get_or_past}
 use Rattle.ot_base.specs.NameLists.{NameLists}
@@ -14,7 +15,7 @@ use Rattle.elf_objects.specs.declared.TheConstants.{SHF_EXECINSTR, SHT_NULL, SHT
 use Rattle.elf_objects.proofs.Read.{length-sections, section_at-entry}
 use Rattle.machine_defs.specs.IsProgram.{HintsStandAtPoints}
 use Rattle.special_sections.specs.declared.entries.HintEntry.{HintEntry}
-use Rattle.special_sections.specs.declared.fault.Why.TheVariants.{HintBase, HintOffset, HintSignal, HintType, NoReloc, NotText}
+use Rattle.special_sections.specs.declared.fault.Why.TheVariants.{HintType, NoReloc, NotText}
 use Rattle.special_sections.specs.declared.fields.Bound.TheVariants.{BelowEnd}
 use Rattle.special_sections.specs.Fields.{field_at, holds_text_place, lacks_reloc, names_text, or_nowhere}
 use Rattle.special_sections.specs.Hints as hint
@@ -25,10 +26,10 @@ use Rattle.state_defs.specs.declared.state.HintState.{HintState}
 use Rattle.special_sections.specs.HintStates.{hint_at, hint_state}
 use Rattle.table_law.proofs.Lists.{finds}
 use Rattle.flow_defs.specs.Code.{no_point, points_of_object}
-use Rattle.flow_defs.specs.Arrival.{hint_of, is_padding}
+use Rattle.flow_defs.specs.Arrival.{hint_of, is_padding, own_hint_of}
 use Rattle.flow_defs.specs.Program.{graph_of, program_of, returning_graph}
 use Rattle.object_law.specs.Flows.{ObjectIsInOrder}
-use Rattle.object_law.proofs.HintStates.{IsEntry, from_reverse, hint_entry_of, reason_none}
+use Rattle.object_law.proofs.HintStates.{IsRightEntry, from_reverse, reason_none, right_entry_of, same_hint_place}
 use Rattle.object_law.proofs.Levels.{and_true}
 
 null_not_text : (s : SectionEntry) → s.kind ≡ SHT_NULL → is_text s ≡ false
@@ -53,34 +54,34 @@ names_one : (o : Elf) (place : Option Place) → names_text o BelowEnd place ≡
 names_one o None e = absurd (false≢true e)
 names_one o (Some place) e = (and_true (is_text (section_at o place.sec)) (nat_lt place.off (section_at o place.sec).size) e).0
 
-in_a_text : (o : Elf) (h : HintEntry) → IsEntry o h → is_text (section_at o h.place.sec) ≡ true
+in_a_text : (o : Elf) (h : HintEntry) → IsRightEntry o h → is_text (section_at o h.place.sec) ≡ true
 in_a_text o h entry =
     let field = field_at entry.sec (12 * entry.entry) in
-    let own = hint.hint_entry o entry.sec entry.entry in
-    let rest : List Reason =
-    (nat_lt 7 own.kind, HintType)
-    ∷ (hint.has_other_base own, HintBase)
-    ∷ (hint.has_bad_offset own, HintOffset)
-    ∷ (hint.has_bad_signal own.kind (slice_index (section_at o entry.sec).body (12 * entry.entry + 8)), HintSignal)
-    ∷ [] in
+    let own = hint.hint_written o entry.sec (12 * entry.entry) in
+    let rest : List Reason = (nat_lt 7 own.kind, HintType) ∷ [] in
     let holds : holds_text_place o BelowEnd field ≡ true = not-false (holds_text_place o BelowEnd field) (second (lacks_reloc o field) (not (holds_text_place o BelowEnd field)) rest entry.right) in
-    ap (λ (h : HintEntry). is_text (section_at o h.place.sec)) (sym entry.is) ∙ names_one o (place_held_at o field) holds
+    ap (λ (place : Place). is_text (section_at o place.sec)) (ap (λ (h : HintEntry). h.place) (sym entry.is) ∙ same_hint_place (hint.is_misfit own (hint.signal_byte o entry.sec (12 * entry.entry))) own)
+    ∙ names_one o (place_held_at o field) holds
 
 hint_in_text : (o : Coded) (place : Place) (found : HintState) → ObjectIsInOrder o → hint_at (special_of o.elf).hints place ≡ Some found → is_text (section_at o.elf place.sec) ≡ true
 hint_in_text o place found order is = elim (finds (λ h. same_place h.place place) (reverse (special_of o.elf).hints)) [
   | inl missing ↦ absurd (let e = ap (option_and_then hint_state) missing.0 in let k : ⊥ = cc in k)
   | inr one ↦
       let sec : one.0.place.sec ≡ place.sec = eqb-true one.0.place.sec place.sec (and_true (one.0.place.sec == place.sec) _ one.3).0 in
-      ap (λ s. is_text (section_at o.elf s)) (sym sec) ∙ in_a_text o.elf one.0 (hint_entry_of o.elf one.0 order.special (from_reverse (special_of o.elf).hints one.0 one.2))
+      ap (λ s. is_text (section_at o.elf s)) (sym sec) ∙ in_a_text o.elf one.0 (right_entry_of o.elf order.under one.0 order.special (from_reverse (special_of o.elf).hints one.0 one.2))
 ]
 
+some_own : {X : Type 0} (one : Option X) (x : X) → option_or one None ≡ Some x → one ≡ Some x
+some_own None x e = absurd (let k : ⊥ = cc in k)
+some_own (Some y) x e = e
+
 none_nowhere : (o : Coded) (found : HintState) → ObjectIsInOrder o → hint_of o no_point ≡ Some found → ⊥
-unfolding hint_of
+unfolding hint_of own_hint_of
 none_nowhere o found order is = go (is_padding o no_point) is
   where
-    go : (b : Bool) → cond b None (hint_at (special_of o.elf).hints no_point.place) ≡ Some found → ⊥
+    go : (b : Bool) → option_or (cond b None (hint_at (special_of o.elf).hints no_point.place)) None ≡ Some found → ⊥
     go true e = let k : ⊥ = cc in k
-    go false e = false≢true (sym (first_not_text o.elf order.object) ∙ hint_in_text o no_point.place found order e)
+    go false e = false≢true (sym (first_not_text o.elf order.object) ∙ hint_in_text o no_point.place found order (some_own (hint_at (special_of o.elf).hints no_point.place) found e))
 
 pub hint_points : (o : Coded) (lists : NameLists) → ObjectIsInOrder o → HintsStandAtPoints (program_of o lists)
 unfolding program_of returning_graph graph_of

@@ -2,6 +2,7 @@
 use Rattle.std.proofs.Common.{◌≡◌, ℕ, ◌-◌, ◌<◌, Bool, true, false, not, cond, Option, Some, None, Contains, refl, sym, ap, ◌∙◌, subst, inl, inr}
 use Rattle.std.specs.Prelude.{filter, nat_lt, option_and_then, reverse, ◌==◌}
 use Rattle.std.specs.List.{list_any}
+use Rattle.std.specs.Option.{option_or}
 use Rattle.std.proofs.lemmas.Bool.{eqb-true}
 use Rattle.std.proofs.lemmas.List.Elements.{Contains-get_or}
 use Rattle.ot_base.specs.NameLists.{NameLists}
@@ -10,12 +11,13 @@ use Rattle.ot_base.specs.Places.{same_place}
 use Rattle.flow_defs.specs.Coded.{Coded}
 use Rattle.machine_defs.specs.Program.{entry_points}
 use Rattle.state_defs.specs.declared.state.HintState.{HintState}
-use Rattle.state_defs.specs.declared.state.HintState.TheVariants.{Set}
+use Rattle.state_defs.specs.declared.state.HintState.TheVariants.{Restore, Save, Set}
 use Rattle.state_defs.specs.declared.state.State.{State}
 use Rattle.machine_defs.specs.Kept.{Kept}
 use Rattle.special_sections.specs.Special.{special_of}
 use Rattle.alternatives.specs.declared.point.Point.{Point}
 use Rattle.alternatives.specs.Originals.{no_entry}
+use Rattle.alternatives.specs.Points.{entry_of}
 use Rattle.flow_defs.specs.Tables.{same_owner}
 use Rattle.special_sections.specs.HintStates.{hint_at, hint_state}
 use Rattle.unwinding_law.proofs.Lists.{find_one, from_filter}
@@ -23,14 +25,14 @@ use Rattle.table_law.proofs.Equal.{same_place_is}
 use Rattle.table_law.proofs.Lists.{finds, some_is}
 use Rattle.flow_defs.specs.Code.{alternatives_of, is_plain, number_of, point_at, points_of_object}
 use Rattle.flow_defs.specs.Owners.{is_entry, owner_of_point}
-use Rattle.flow_defs.specs.Arrival.{decoded_insn, hint_of, is_padding}
+use Rattle.flow_defs.specs.Arrival.{decoded_insn, for_replacements, hint_of, is_first_of_replacement, is_padding, own_hint_of, start_hint_of}
 use Rattle.flow_defs.specs.Hints.{is_nearer, is_restore, is_save, is_save_before, nearest, save_of, saves_before}
 use Rattle.flow_defs.specs.Program.{entries_of, graph_of, is_entry_point as is_entry_of, program_of, returning_graph}
 use Rattle.object_law.specs.Flows.{ObjectIsInOrder}
 use Rattle.object_law.proofs.EntryFacts.{counted_inside}
 use Rattle.object_law.proofs.HintPoints.{hint_points}
 use Rattle.object_law.proofs.HintStates.{from_reverse}
-use Rattle.object_law.proofs.Levels.{and_true}
+use Rattle.object_law.proofs.Levels.{and_true, not_true}
 use Rattle.object_law.proofs.Numbers.{numbered, numbers_are, point_count}
 use Rattle.object_law.proofs.Overlays.{address_plain, overlays}
 use Rattle.object_law.proofs.Owners.{arrives_at, entry_is}
@@ -57,7 +59,7 @@ module _ (o : Coded) where
   hinted_is_named : (order : ObjectIsInOrder o) (place : Place) (found : HintState) → hint_at (special_of o.elf).hints place ≡ Some found → IsNamed o place.sec
   hinted_is_named order place found is = elim (finds (λ h. same_place h.place place) (reverse (special_of o.elf).hints)) [
     | inl missing ↦ absurd (let e = ap (option_and_then hint_state) missing.0 in let z : ⊥ = cc in z)
-    | inr one ↦ subst (λ (p : Place). IsNamed o p.sec) (same_place_is one.0.place place one.3) (hint_is_named o order.special one.0 (from_reverse (special_of o.elf).hints one.0 one.2))
+    | inr one ↦ subst (λ (p : Place). IsNamed o p.sec) (same_place_is one.0.place place one.3) (hint_is_named o order.under order.special one.0 (from_reverse (special_of o.elf).hints one.0 one.2))
   ]
 
   -- a point of a replacement runs in the section of an original, and any other at its own place
@@ -70,17 +72,40 @@ module _ (o : Coded) where
           let point = point_at o q in
           let over = overlays o point (decoded_insn o point) order other (point_is o q order.bytes here) in
           let inside = counted_inside (alternatives_of o) (point.variant - 1) over.counting in
-          let original = original_is_named o order.special _ (Contains-get_or (alternatives_of o) (point.variant - 1) no_entry inside) in
+          let original = original_is_named o order.under order.special _ (Contains-get_or (alternatives_of o) (point.variant - 1) no_entry inside) in
           subst (λ sec. IsNamed o sec) (sym (replaced_sec o point other)) original
+
+  -- a hint that counts for the replacements of a site stands where the site starts
+  found_at_start : (at : Option HintState) (found : HintState) → for_replacements at ≡ Some found → at ≡ Some found
+  found_at_start None found e = absurd (let z : ⊥ = cc in z)
+  found_at_start (Some Save) found e = absurd (let z : ⊥ = cc in z)
+  found_at_start (Some Restore) found e = e
+  found_at_start (Some (Set s)) found e = e
 
   -- what a hint sets at a point is set in such a section
   set_is_named : (order : ObjectIsInOrder o) (q : ℕ) (found : HintState) → q < point_count o → hint_of o (point_at o q) ≡ Some found → IsNamed o (address_at o q).sec
-  unfolding hint_of
-  set_is_named order q found here is = go (is_padding o (point_at o q)) is
+  unfolding hint_of own_hint_of
+  set_is_named order q found here is = by_own (own_hint_of o point) refl is
     where
-      go : (b : Bool) → cond b None (hint_at (special_of o.elf).hints (point_at o q).place) ≡ Some found → IsNamed o (address_at o q).sec
-      go true e = absurd (let z : ⊥ = cc in z)
-      go false e = point_is_named order q here (hinted_is_named order (point_at o q).place found e)
+      point : Point
+      point = point_at o q
+
+      start : Place
+      start = (entry_of (alternatives_of o) point.variant).original
+
+      by_padding : (b : Bool) → cond b None (hint_at (special_of o.elf).hints point.place) ≡ Some found → IsNamed o (address_at o q).sec
+      by_padding true e = absurd (let z : ⊥ = cc in z)
+      by_padding false e = point_is_named order q here (hinted_is_named order point.place found e)
+
+      by_start : (b : Bool) → is_first_of_replacement o point ≡ b → cond b (for_replacements (hint_at (special_of o.elf).hints start)) None ≡ Some found → IsNamed o (address_at o q).sec
+      by_start true first e =
+          let other = not_true (is_plain point) (and_true (not (is_plain point)) _ first).0 in
+          subst (λ sec. IsNamed o sec) (sym (replaced_sec o point other)) (hinted_is_named order start found (found_at_start (hint_at (special_of o.elf).hints start) found e))
+      by_start false first e = absurd (let z : ⊥ = cc in z)
+
+      by_own : (own : Option HintState) → own_hint_of o point ≡ own → option_or own (start_hint_of o point) ≡ Some found → IsNamed o (address_at o q).sec
+      by_own (Some hint) same e = by_padding (is_padding o point) (same ∙ e)
+      by_own None same e = by_start (is_first_of_replacement o point) refl e
 
   -- a RESTORE runs in the section of its SAVE
   save_sec : (point : Point) (save : ℕ) → save_of o point ≡ Some save → (address_at o save).sec ≡ (address_of o point).sec
@@ -118,7 +143,7 @@ named_on o lists order = record {
       let at : address_at o q ≡ place = subst (λ (r : ℕ). address_at o r ≡ place) (eqb-true x.0 q x.2) (arrives_at o place x.0 x.1) in
       subst (λ (a : Place). IsNamed o a.sec) (sym at) (entry_is_named o entry.0 entry.1));
   set = λ q s is. set_is_named o order q (Set s) (hint_points o lists order q (Set s) is) is;
-  along = λ q e c named. edges_lead_to_named o (point_at o q) named order.special e c;
+  along = λ q e c named. edges_lead_to_named o (point_at o q) named order.under order.special e c;
   saved = λ q save is named. subst (λ sec. IsNamed o sec) (save_sec o (point_at o q) save is) named;
 }
 

@@ -1,16 +1,17 @@
 -- Symbols are defined in the sections of the places that the entries of special sections hold.
-use Rattle.std.proofs.Common.{◌≡◌, ℕ, ◌+◌, ◌*◌, Bool, true, not, ◌&&◌, ◌||◌, List, [], ◌∷◌, None, Contains, sym, subst}
-use Rattle.std.specs.Prelude.{nat_lt, slice_index}
+use Rattle.std.proofs.Common.{◌≡◌, ℕ, ◌+◌, ◌*◌, Bool, true, not, ◌&&◌, ◌||◌, List, [], ◌∷◌, None, Contains, sym, ap, ◌∙◌, subst}
+use Rattle.std.specs.Prelude.{nat_lt}
 use Rattle.std.specs.List.{range_with_len}
 use Rattle.std.proofs.lemmas.Bool.{not-false}
+use Rattle.ot_base.specs.declared.place.Place.{Place}
+use Rattle.ot_base.specs.NameLists.{NameLists}
 use Rattle.elf_objects.specs.Elf.{Elf}
 use Rattle.flow_defs.specs.Coded.{Coded}
-use Rattle.elf_objects.specs.Contents.{section_at}
 use Rattle.special_sections.specs.declared.entries.AltEntry.{AltEntry}
 use Rattle.special_sections.specs.declared.entries.BranchEntry.{BranchEntry}
 use Rattle.special_sections.specs.declared.entries.FixEntry.{FixEntry}
 use Rattle.special_sections.specs.declared.entries.HintEntry.{HintEntry}
-use Rattle.special_sections.specs.declared.fault.Why.TheVariants.{HintBase, HintOffset, HintSignal, HintType, Length, NoReloc, NotText}
+use Rattle.special_sections.specs.declared.fault.Why.TheVariants.{HintType, Length, NoReloc, NotText}
 use Rattle.special_sections.specs.declared.fields.Bound.TheVariants.{BelowEnd}
 use Rattle.special_sections.specs.Fields.{field_at, holds_text_place, lacks_reloc}
 use Rattle.special_sections.specs.Hints as hint
@@ -20,7 +21,7 @@ use Rattle.special_sections.specs.Special.{special_faults, special_of}
 use Rattle.special_sections.specs.Tables as tables
 use Rattle.special_sections.proofs.Written.{nested_from}
 use Rattle.unwinding_law.proofs.Lists.{from_flat_map}
-use Rattle.object_law.proofs.HintStates.{each_none, entries_none, fault_none, parts_none, reason_none}
+use Rattle.object_law.proofs.HintStates.{each_none, entries_none, fault_none, parts_none, reason_none, right_entry_of, same_hint_place}
 use Rattle.object_law.proofs.Levels.{and_true}
 use Rattle.object_law.proofs.Owners.{from_map}
 use Rattle.object_law.specs.Named.{IsNamed}
@@ -47,7 +48,7 @@ entry_of kind o x none c =
 holds : (lacking holding : Bool) (rest : List Reason) → first_reason ((lacking, NoReloc) ∷ (not holding, NotText) ∷ rest) ≡ None → holding ≡ true
 holds lacking holding rest h = not-false holding (reason_none (not holding) NotText rest (reason_none lacking NoReloc ((not holding, NotText) ∷ rest) h).1).0
 
-module _ (o : Coded) (none : special_faults o.elf ≡ []) where
+module _ (o : Coded) (names : NameLists) (none : special_faults o.elf names ≡ []) where
   of_alternatives : faults tables.alternatives o.elf ≡ []
   of_alternatives = (parts_none (faults tables.alternatives o.elf) _ none).0
 
@@ -59,13 +60,6 @@ module _ (o : Coded) (none : special_faults o.elf ≡ []) where
       let behind_alternatives = (parts_none (faults tables.alternatives o.elf) _ none).1 in
       let behind_branches = (parts_none (faults tables.branches o.elf) _ behind_alternatives).1 in
       (parts_none (faults tables.fixes o.elf) _ behind_branches).0
-
-  of_hints : faults hint.hints o.elf ≡ []
-  of_hints =
-      let behind_alternatives = (parts_none (faults tables.alternatives o.elf) _ none).1 in
-      let behind_branches = (parts_none (faults tables.branches o.elf) _ behind_alternatives).1 in
-      let behind_fixes = (parts_none (faults tables.fixes o.elf) _ behind_branches).1 in
-      (parts_none (faults hint.hints o.elf) _ behind_fixes).0
 
   -- the original of an alternative
   pub original_is_named : (a : AltEntry) → Contains (special_of o.elf).alternatives a → IsNamed o a.original.sec
@@ -104,13 +98,9 @@ module _ (o : Coded) (none : special_faults o.elf ≡ []) where
   -- the place of a hint
   pub hint_is_named : (h : HintEntry) → Contains (special_of o.elf).hints h → IsNamed o h.place.sec
   hint_is_named h c =
-      let entry = entry_of hint.hints o.elf h of_hints c in
+      let entry = right_entry_of o.elf names h none c in
       let field = field_at entry.sec (12 * entry.entry) in
-      let own = hint.hint_entry o.elf entry.sec entry.entry in
-      let rest : List Reason =
-      (nat_lt 7 own.kind, HintType)
-      ∷ (hint.has_other_base own, HintBase)
-      ∷ (hint.has_bad_offset own, HintOffset)
-      ∷ (hint.has_bad_signal own.kind (slice_index (section_at o.elf entry.sec).body (12 * entry.entry + 8)), HintSignal)
-      ∷ [] in
-      subst (λ (x : HintEntry). IsNamed o x.place.sec) entry.is (held_is_named o BelowEnd field (holds (lacks_reloc o.elf field) (holds_text_place o.elf BelowEnd field) rest entry.right))
+      let own = hint.hint_written o.elf entry.sec (12 * entry.entry) in
+      let place : own.place ≡ h.place = sym (same_hint_place (hint.is_misfit own (hint.signal_byte o.elf entry.sec (12 * entry.entry))) own) ∙ ap (λ (x : HintEntry). x.place) entry.is in
+      subst (λ (p : Place). IsNamed o p.sec) place
+      (held_is_named o BelowEnd field (holds (lacks_reloc o.elf field) (holds_text_place o.elf BelowEnd field) ((nat_lt 7 own.kind, HintType) ∷ []) entry.right))

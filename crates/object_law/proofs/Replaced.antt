@@ -1,6 +1,8 @@
 -- How control goes on from the points of an object in order, inside replacements and behind points.
-use Rattle.std.proofs.Common.{◌≡◌, ℕ, ◌+◌, ◌-◌, ◌<◌, ◌⊎◌, Bool, true, false, not, ◌&&◌, cond, Option, Some, None, Contains, refl, sym, ap, ◌∙◌, subst, inl, inr, arith}
-use Rattle.std.specs.Prelude.{option_and_then, ◌==◌}
+use Rattle.std.proofs.Common.{◌≡◌, ℕ, suc, ◌+◌, ◌-◌, ◌<◌, ◌≤◌, ◌⊎◌, List, [], ◌∷◌, length, Bool, true, false, not, ◌&&◌, cond, Option, Some, None, Contains, refl, sym, ap, ◌∙◌, subst, inl, inr, arith}
+use Rattle.std.specs.Prelude.{find, option_and_then, ◌==◌}
+use Rattle.std.specs.List.{range_with_len, take_while}
+use Rattle.std.proofs.lemmas.List.FromFn.{length-range_with_len}
 use Rattle.std.proofs.lemmas.Bool.{cases_lt, eqb-true}
 use Rattle.ot_base.specs.NameLists.{NameLists}
 use Rattle.ot_base.specs.declared.place.Place.{Place}
@@ -16,13 +18,13 @@ use Rattle.alternatives.specs.Originals.{entry_at}
 use Rattle.alternatives.specs.Points.{entry_of, insn_of_point, is_point, next_point, point_after, point_behind}
 use Rattle.alternatives.specs.Texts.{behind}
 use Rattle.table_law.proofs.Equal.{equal_places}
-use Rattle.table_law.proofs.Lists.{some_is}
+use Rattle.table_law.proofs.Lists.{finds, some_is}
 use Rattle.flow_defs.specs.declared.destination.Crossing.TheVariants.{MayNotCross}
 use Rattle.flow_defs.specs.declared.destination.Destination.{Destination}
 use Rattle.flow_defs.specs.declared.destination.Destination.TheVariants as destinations
 use Rattle.flow_defs.specs.Code.{alternatives_of, is_plain, point_at, texts_of}
-use Rattle.flow_defs.specs.Arrival.{decoded_insn, next_of_replacement, place_behind, replacement_end, site_end}
-use Rattle.flow_defs.specs.Sites.{site_of_entry, sites_of}
+use Rattle.flow_defs.specs.Arrival.{behind_plain as behind_plain_place, decoded_insn, is_short_nop, is_short_nop_at, next_of_replacement, place_behind, replacement_end, run_from, site_end}
+use Rattle.flow_defs.specs.Sites.{site_holding, site_of_entry, sites_of}
 use Rattle.flow_defs.specs.Targets.{Displacement, destination, destination_by, displacement_of, lacks_reloc, named_destination, own_destination, relative_place}
 use Rattle.object_law.specs.Flows.{ObjectIsInOrder}
 use Rattle.object_law.proofs.Bodies.{before_cut}
@@ -88,6 +90,21 @@ next_within o point next is = by_plain (is_plain point) refl is
     by_plain : (b : Bool) → is_plain point ≡ b → cond b None (next_point (texts_of o) (alternatives_of o) point) ≡ Some next → IsOfSame point next
     by_plain true e is = absurd (let k : ⊥ = cc in k)
     by_plain false e is = record { replaced = e; same = by_insn (insn_of_point (texts_of o) (alternatives_of o) point) is }
+
+-- those taken from the front of a list are no more than it has
+taken_within : {X : Type 0} (p : X → Bool) (xs : List X) → length (take_while p xs) ≤ length xs
+taken_within p [] = omega arith
+taken_within p (x ∷ xs) = go (p x)
+  where
+    go : (b : Bool) → length (cond b (x ∷ take_while p xs) []) ≤ suc (length xs)
+    go true = let rest = taken_within p xs in omega (arith, rest)
+    go false = omega arith
+
+-- what is left of a run in a site ends in it
+run_within : (o : Coded) (place : Place) (site : Site) → run_from o place site ≤ site.start.off + site.len - place.off
+run_within o place site =
+    let most = taken_within (is_short_nop_at o place.sec) (range_with_len place.off (site.start.off + site.len - place.off)) in
+    omega (arith, most, length-range_with_len place.off (site.start.off + site.len - place.off))
 
 module _ (o : Coded) (lists : NameLists) (order : ObjectIsInOrder o) where
   -- a point of a replacement runs in the site of its original
@@ -159,11 +176,64 @@ module _ (o : Coded) (lists : NameLists) (order : ObjectIsInOrder o) where
         | inr from ↦ equal_places site.start (behind a.original a.original_len) inside.sec (omega (arith, from, start_off, inside.from))
       ]
 
+  -- behind a run of no-ops in a site comes that site, or the start of another
+  behind_run : (q n : ℕ) (site own : Site) → is_plain (point_at o q) ≡ true → Contains (sites_of o) site → Contains (sites_of o) own → InSite own (point_at o q).place
+      → n ≤ own.start.off + own.len - (point_at o q).place.off → InSite site (behind (point_at o q).place n)
+      → (in_site site (address_at o q) ≡ true) ⊎ (site.start ≡ behind (point_at o q).place n)
+  behind_run q n site own is listed own_listed here most inside =
+      let point = point_at o q in
+      let place = point.place in
+      let plain = eqb-true point.variant 0 is in
+      elim (cases_lt place.off site.start.off) [
+        | inl before ↦ elim (cases_lt site.start.off (place.off + n)) [
+          | inl within ↦
+              let in_own : InSite own site.start = record { sec = here.sec ∙ sym inside.sec; from = omega (arith, here.from, before); before = omega (arith, within, most, here.before) } in
+              let in_site_itself : InSite site site.start = record { sec = refl; from = omega arith; before = omega (arith, inside.before, within) } in
+              let same : own ≡ site = sites_apart o lists order own site site.start own_listed listed (is_in_site own site.start in_own) (is_in_site site site.start in_site_itself) in
+              absurd (omega (arith, here.from, before, ap (λ (s : Site). s.start.off) same))
+          | inr at ↦ inr (equal_places site.start (behind place n) inside.sec (omega (arith, at, inside.from)))
+        ]
+        | inr late ↦
+            let own_place : InSite site place = record { sec = inside.sec; from = late; before = omega (arith, inside.before) } in
+            inl (subst (λ (p : Place). in_site site p ≡ true) (sym (address_plain o point plain)) (is_in_site site place own_place))
+      ]
+
+  -- where control comes behind a plain point, be it in a site or not
+  behind_any : (q : ℕ) (site : Site) → q < point_count o → is_plain (point_at o q) ≡ true → Contains (sites_of o) site
+      → in_site site (behind_plain_place o (point_at o q).place (decoded_insn o (point_at o q)) (site_holding o (point_at o q).place)) ≡ true
+      → (in_site site (address_at o q) ≡ true) ⊎ (site.start ≡ behind_plain_place o (point_at o q).place (decoded_insn o (point_at o q)) (site_holding o (point_at o q).place))
+  unfolding site_holding
+  behind_any q site here is listed inside = by_site (finds (λ s. in_site s place) (sites_of o))
+    where
+      place : Place
+      place = (point_at o q).place
+
+      insn : Insn
+      insn = decoded_insn o (point_at o q)
+
+      Goal : Option Site → Type 0
+      Goal held = in_site site (behind_plain_place o place insn held) ≡ true → (in_site site (address_at o q) ≡ true) ⊎ (site.start ≡ behind_plain_place o place insn held)
+
+      by_nop : (own : Site) → Contains (sites_of o) own → in_site own place ≡ true → (b : Bool)
+          → in_site site (cond b (behind place (run_from o place own)) (behind place insn.len)) ≡ true
+          → (in_site site (address_at o q) ≡ true) ⊎ (site.start ≡ cond b (behind place (run_from o place own)) (behind place insn.len))
+      by_nop own own_listed holds true inside =
+          behind_run q (run_from o place own) site own is listed own_listed (in_site_is own place holds) (run_within o place own) (in_site_is site (behind place (run_from o place own)) inside)
+      by_nop own own_listed holds false inside = behind_plain q site here is listed (in_site_is site (behind place insn.len) inside)
+
+      by_site : (find (λ s. in_site s place) (sites_of o) ≡ None) ⊎ ((own : Site) × (find (λ s. in_site s place) (sites_of o) ≡ Some own) × Contains (sites_of o) own × (in_site own place ≡ true))
+          → (in_site site (address_at o q) ≡ true) ⊎ (site.start ≡ behind_plain_place o place insn (find (λ s. in_site s place) (sites_of o)))
+      by_site (inl none) = subst Goal (sym none) (λ inside. behind_plain q site here is listed (in_site_is site (behind place insn.len) inside)) inside
+      by_site (inr one) = subst Goal (sym one.1) (λ inside. by_nop one.0 one.2 one.3 (is_short_nop insn) inside) inside
+
   -- where control comes behind a point into a site, it was in that site or comes to its start
   pub comes_behind : (q : ℕ) (site : Site) → q < point_count o → Contains (sites_of o) site → in_site site (place_behind o (point_at o q)) ≡ true → (in_site site (address_at o q) ≡ true) ⊎ (site.start ≡ place_behind o (point_at o q))
   comes_behind q site here listed inside = by_plain (is_plain (point_at o q)) refl inside
     where
-      by_plain : (b : Bool) → is_plain (point_at o q) ≡ b → in_site site (cond b (behind (point_at o q).place (decoded_insn o (point_at o q)).len) (site_end o (point_at o q))) ≡ true
-          → (in_site site (address_at o q) ≡ true) ⊎ (site.start ≡ cond b (behind (point_at o q).place (decoded_insn o (point_at o q)).len) (site_end o (point_at o q)))
-      by_plain true e inside = behind_plain q site here e listed (in_site_is site (behind (point_at o q).place (decoded_insn o (point_at o q)).len) inside)
+      plain_behind : Place
+      plain_behind = behind_plain_place o (point_at o q).place (decoded_insn o (point_at o q)) (site_holding o (point_at o q).place)
+
+      by_plain : (b : Bool) → is_plain (point_at o q) ≡ b → in_site site (cond b plain_behind (site_end o (point_at o q))) ≡ true
+          → (in_site site (address_at o q) ≡ true) ⊎ (site.start ≡ cond b plain_behind (site_end o (point_at o q)))
+      by_plain true e inside = behind_any q site here e listed inside
       by_plain false e inside = inr (behind_site q site here e listed (in_site_is site (site_end o (point_at o q)) inside))

@@ -15,17 +15,18 @@ use Rattle.flow_defs.specs.Program.{program_of}
 abbrev pub HasBytes : Coded → Type 0
 HasBytes o = (t : SectionText) → Contains (texts_of o) t → AllByRecursion (λ byte. byte < 256) t.text.bytes
 
--- An object is in order, as far as its readers ask: it is well-formed, and neither an entry of a special section nor an
--- alternative is refused.
+-- An object is in order, as far as its readers ask: it is well-formed, and neither an entry of a special section, under some lists
+-- of names, nor an alternative is refused.
 pub record ObjectIsInOrder (o : Coded) : Type 0 where
   pub object : IsObject o.elf.bytes o.elf
   pub bytes : HasBytes o
-  pub special : special_faults o.elf ≡ []
+  pub under : NameLists
+  pub special : special_faults o.elf under ≡ []
   pub sites : AreRight (texts_of o) (alternatives_of o) (length (alternatives_of o))
 
--- The program of every object whose special sections are in order is one, as the laws ask.
+-- The program of every object is one, as the laws ask.
 abbrev pub ProgramIsOne : Type 0
-ProgramIsOne = (o : Coded) (lists : NameLists) → HasBytes o → special_faults o.elf ≡ [] → IsProgram (program_of o lists)
+ProgramIsOne = (o : Coded) (lists : NameLists) → HasBytes o → IsProgram (program_of o lists)
 
 -- The program of every object in order is laid out as rows and walks ask.
 abbrev pub ProgramIsLaidOut : Type 0
