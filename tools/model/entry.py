@@ -4,19 +4,23 @@ from typing import Iterator, Optional
 
 from check import graph_of
 from commands import DONE, WARNINGS, Answer, answered, object_of
-from elf import ALLOC, R_32, R_32S, R_64, R_PC32, Object, Place
+from elf import GLOBAL, R_32, R_32S, R_64, R_PC32, R_PLT32, Object, Place
 from flow import SIBLING, Flow
 from rules import Warning
 from sites import Point
 from texts import warning_text
 
 NOINSTR = (b".noinstr.text", b".entry.text", b".cpuidle.text")
-# Sections whose relocations take no address.
+# Sections that tell of code, whose relocations take no address.
 TELLING = {
-    *(b".altinstructions", b"__jump_table", b"__ex_table", b".discard.unwind_hints", b".discard.reachable", b".discard.unreachable"),
-    *(b".discard.func_stack_frame_non_standard", b".discard.retpoline_safe", b".discard.intra_function_calls"),
-    *(b".orc_unwind", b".orc_unwind_ip", b".retpoline_sites", b".return_sites", b".call_sites", b".eh_frame"),
+    *(b".altinstructions", b".ibt_endbr_seal", b".orc_unwind_ip", b".parainstructions", b".retpoline_sites", b".return_sites", b".call_sites"),
+    *(b".static_call_sites", b".cfi_sites", b".smp_locks", b"_error_injection_whitelist", b"_kprobe_blacklist", b"__bug_table"),
+    *(b"__ex_table", b"__jump_table", b"__mcount_loc", b".kcfi_traps", b".eh_frame"),
 }
+# Instructions whose relocations take none.
+TAKING_NONE = ("Call", "CallInd", "Jmp", "Jcc", "JmpInd", "Ret", "RetImm", "Nop")
+# R_X86_64_GOTPCREL, R_X86_64_GOTPCRELX, R_X86_64_REX_GOTPCRELX.
+TABLE_KINDS = (9, 41, 42)
 
 
 def is_noinstr(object: Object, sec: int) -> bool:
@@ -50,32 +54,58 @@ def is_before_int3(flow: Flow, point: Point) -> bool:
     return behind in flow.insn and flow.insn[behind].op == "Int3"
 
 
-def named_place(object: Object, reloc, extra: int) -> Optional[Place]:
-    named = object.named_place(reloc)
-    return None if named is None or named[1] + extra < 0 else Place(named[0], named[1] + extra)
+def place_from(object: Object, reloc, distance: int) -> Optional[Place]:
+    """The place so far from the relocation's symbol."""
+    named = object.named_place(reloc._replace(addend=0))
+    off = None if named is None else named[1] + distance
+    return Place(named[0], off) if off is not None and 0 <= off < 1 << 64 else None
 
 
-def taken_places(flow: Flow) -> set[Place]:
+def tells_of_code(name: bytes) -> bool:
+    discarded = name.startswith(b".discard") and name != b".discard.ibt_endbr_noseal"
+    return discarded or name.startswith(b".debug") or name in TELLING or b"__patchable_function_entries" in name
+
+
+def is_trampoline(object: Object, sym: int) -> bool:
+    symbol = object.symbols[sym] if sym < len(object.symbols) else None
+    return symbol is not None and symbol.bind == GLOBAL and symbol.name.startswith(b"__SCT__")
+
+
+def distance_of(object: Object, insns, reloc) -> Optional[int]:
+    """How far from its symbol the place stands whose address a relocation takes, in code with these instructions, or in data without; None where it takes none."""
+    if reloc.kind == 0:
+        return None
+    extra = 0
+    if insns is not None:
+        begin = max((off for off in insns if off <= reloc.offset), default=None)
+        over = None if begin is None or begin + insns[begin].length <= reloc.offset else insns[begin]
+        if is_trampoline(object, reloc.sym) or (over is not None and over.op in TAKING_NONE):
+            return None
+        if reloc.kind in (R_PC32, R_PLT32):
+            if over is None:
+                return None
+            extra = begin + over.length - reloc.offset
+    return 0 if reloc.kind in TABLE_KINDS else reloc.addend + extra
+
+
+def taken_places(object: Object, code) -> set[Place]:
     """The places whose addresses are taken."""
-    object, taken = flow.object, set()
+    taken = set()
     for sec, relocs in object.relocs.items():
         section = object.sections[sec]
-        if not section.flags & ALLOC or section.name in TELLING:
+        if not section.is_text() and tells_of_code(section.name):
             continue
+        insns = code.insns[sec] if section.is_text() else None
         for reloc in relocs:
-            extra = 0
-            if reloc.kind == R_PC32 and section.is_text():
-                begin = max(off for off in flow.code.insns[sec] if off <= reloc.offset)
-                insn = flow.code.insns[sec][begin]
-                end = begin + insn.length
-                width = (4 if insn.wide else 1) if insn.op in ("Call", "Jmp", "Jcc") else None
-                if width is not None and reloc.offset + width == end:
-                    continue
-                extra = end - reloc.offset
-            elif reloc.kind not in (R_64, R_32, R_32S, R_PC32):
-                continue
-            taken.add(named_place(object, reloc, extra))
+            distance = distance_of(object, insns, reloc)
+            taken.add(None if distance is None else place_from(object, reloc, distance))
     return taken - {None}
+
+
+def excused_places(object: Object) -> set[Place]:
+    """Those that go without an ENDBR all the same."""
+    relocs = [reloc for sec, own in object.relocs.items() if object.sections[sec].name == b".discard.noendbr" for reloc in own]
+    return {place_from(object, reloc, reloc.addend) for reloc in relocs if reloc.kind in (R_64, R_PC32, R_32, R_32S)} - {None}
 
 
 def entry_warnings(flow: Flow, noinstr: bool, sls: bool, ibt: bool) -> list[Warning]:
@@ -87,7 +117,7 @@ def entry_warnings(flow: Flow, noinstr: bool, sls: bool, ibt: bool) -> list[Warn
         if sls and op in ("Ret", "RetImm", "JmpInd") and not is_before_int3(flow, point):
             found.add(Warning(place, 53 if op == "JmpInd" else 52, 0, 0))
     if ibt:
-        taken = taken_places(flow)
+        taken = taken_places(flow.object, flow.code) - excused_places(flow.object)
         for start in flow.entries:
             if start in taken and any(flow.insn[point].op != "Endbr" for point in flow.sites.arrive(start)):
                 found.add(Warning(start, 54, 0, 0))

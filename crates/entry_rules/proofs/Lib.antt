@@ -2,13 +2,9 @@ pub mod RunPoints
 pub mod Kept
 pub mod ObjectPlaces
 pub mod RuleWarnings
-pub mod OverBytes
 pub mod Behind
-pub mod TakenLists
-pub mod EverySection
 pub mod Numbered
 pub mod AskedRules
-pub mod ObjectTexts
 pub mod NamedParts
 pub mod BarePoints
 pub mod TakenPoints

@@ -1,5 +1,5 @@
 -- An entry at which control may come to stand at a point, and whether its address is taken.
-use Rattle.std.proofs.Common.{◌≡◌, ◌↔◌, ℕ, Bool, true, false, IsTrue, Option, Some, None, List, Contains, refl, sym, ap, ◌∙◌}
+use Rattle.std.proofs.Common.{◌≡◌, ◌↔◌, ℕ, ◌&&◌, not, Bool, true, false, IsTrue, Option, Some, None, List, Contains, refl, sym, ap, ◌∙◌}
 use Rattle.std.proofs.lemmas.Option.{none-some}
 use Rattle.ot_base.specs.NameLists.{NameLists}
 use Rattle.ot_base.specs.Warnings.{bare_warning}
@@ -17,7 +17,7 @@ use Rattle.table_law.proofs.Lists.{some_is}
 use Rattle.entry_rules.specs.EntryWarns.{is_endbr}
 use Rattle.entry_rules.specs.ObjectFacts.{facts_of}
 use Rattle.entry_rules.specs.PointWarns.{PointIsTaken}
-use Rattle.entry_rules.specs.Taken.{taken_places}
+use Rattle.taken_places.specs.Taken.{excused_places, taken_places}
 
 module _ (o : Coded) (lists : NameLists) (n : ℕ) where
   -- an entry of the program at which control may come to stand at the point
@@ -29,8 +29,8 @@ module _ (o : Coded) (lists : NameLists) (n : ℕ) where
   unfolding program_of returning_graph graph_of
   entered entry h = (h.listed, h.stands)
 
-  -- the address of an entry is taken where its place is among those that are
-  pub taken_at : (entry : ℕ) → (facts_of o).taken entry ≡ is_among (taken_places o) ((program_of o lists).place entry)
+  -- the address of an entry is taken where its place is among those that are, and not among those that are excused
+  pub taken_at : (entry : ℕ) → (facts_of o).taken entry ≡ (is_among (taken_places o) ((program_of o lists).place entry) && not (is_among (excused_places o.elf) ((program_of o lists).place entry)))
   unfolding facts_of program_of returning_graph graph_of
   taken_at entry = refl
 
@@ -43,7 +43,7 @@ module _ (o : Coded) (lists : NameLists) (n : ℕ) where
 
   -- the warning of the one entry
   pub one_entered : (old new : List Warning) (found : Option ℕ) (entry : ℕ) (place : Place) (contained : Bool) → ((e : ℕ) → IsEnteredAt o e n ↔ (found ≡ Some e)) → found ≡ Some entry
-      → place ≡ (program_of o lists).place entry → contained ≡ is_among (taken_places o) place → is_endbr ((program_of o lists).insn n).op ≡ false
+      → place ≡ (program_of o lists).place entry → contained ≡ (is_among (taken_places o) place && not (is_among (excused_places o.elf) place)) → is_endbr ((program_of o lists).insn n).op ≡ false
       → Gains old new (λ w. IsTrue contained × w ≡ bare_warning place TAKEN_WITHOUT_ENDBR) → Gains old new (PointIsTaken (program_of o lists) (facts_of o) n)
   one_entered old new found entry place contained is some at has other gains =
       gains_same old new (λ w. IsTrue contained × w ≡ bare_warning place TAKEN_WITHOUT_ENDBR) (PointIsTaken (program_of o lists) (facts_of o) n) gains (λ w. (
@@ -56,4 +56,4 @@ module _ (o : Coded) (lists : NameLists) (n : ℕ) where
       ))
     where
       told : contained ≡ (facts_of o).taken entry
-      told = has ∙ ap (is_among (taken_places o)) at ∙ sym (taken_at entry)
+      told = has ∙ ap (λ (x : Place). is_among (taken_places o) x && not (is_among (excused_places o.elf) x)) at ∙ sym (taken_at entry)

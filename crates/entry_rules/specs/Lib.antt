@@ -1,7 +1,5 @@
 pub mod Facts
 pub mod EntryWarns
-pub mod Taken
-pub mod Listed
 pub mod ObjectFacts
 pub mod Law
 pub mod Table

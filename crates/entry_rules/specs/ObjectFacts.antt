@@ -1,12 +1,12 @@
 -- What an object says that the entry rules look at.
-use Rattle.std.specs.Prelude.{ℕ, ◌&&◌, ◌||◌, nat_lt, Bool, List, [], ◌∷◌, ◌++◌, length, take, bytes_eq, codes}
+use Rattle.std.specs.Prelude.{ℕ, ◌&&◌, ◌||◌, not, nat_lt, Bool, List, [], ◌∷◌, ◌++◌, length, take, bytes_eq, codes}
 use Rattle.std.specs.List.{list_any}
 use Rattle.elf_objects.specs.Elf.{SectionEntry}
 use Rattle.elf_objects.specs.Contents.{is_text, section_at}
 use Rattle.flow_defs.specs.Code.{point_at}
 use Rattle.flow_defs.specs.Coded.{Coded}
 use Rattle.entry_rules.specs.Facts.{EntryFacts}
-use Rattle.entry_rules.specs.Taken.{is_taken}
+use Rattle.taken_places.specs.Taken.{is_excused, is_taken}
 
 -- the names of sections whose code isn't instrumented
 abbrev pub noinstr_names : List (List ℕ)
@@ -26,5 +26,5 @@ is_noinstr_section s = is_text s && list_any (is_name_or_part s.name) noinstr_na
 unfoldable pub facts_of : Coded → EntryFacts
 facts_of o = record {
   noinstr = λ sec. is_noinstr_section (section_at o.elf sec);
-  taken = λ q. is_taken o (point_at o q).place;
+  taken = λ q. is_taken o (point_at o q).place && not (is_excused o.elf (point_at o q).place);
 }

@@ -3,8 +3,10 @@
 ghost use Rattle.std.specs.Prelude.{◌≡◌, true, IfOk, OnOk};
 ghost use Rattle.ot_base.specs.NameLists.{NameLists};
 ghost use Rattle.flow_defs.specs.Program.{program_of};
+ghost use Rattle.object_points.specs.Places.{HaveSamePlaces};
 ghost use Rattle.program_graph.specs.Tells.{Tells};
 ghost use Rattle.stack_rules.specs.Gains.{Gains};
+ghost use Rattle.taken_places.specs.Taken.{excused_places, taken_places};
 ghost use Rattle.entry_rules.specs.ObjectFacts.{facts_of};
 ghost use Rattle.entry_rules.specs.PointWarns.{BareWarns, LeavingWarns, TakenWarns};
 ghost use Rattle.entry_rules.specs.Verdict.{AreFound, IsGraphOf, PromisesHold};
@@ -15,7 +17,7 @@ use crate::leaving::push_leaving;
 use crate::noinstr::list_noinstr;
 use crate::options::EntryOptions;
 use crate::taken::push_taken;
-use crate::targets::list_taken;
+use elf_objects::Object;
 use object_law::entry_laws::program_has_functions;
 use object_law::flow_laws::program_is_one;
 use object_points::{Linked, PlaceSet, PointPlaces};
@@ -24,6 +26,7 @@ use point_edges::object_is_in_order;
 use program_graph::Graph;
 use stack_rules::sort_warnings;
 use std::alloc::Global;
+use taken_places::{list_excused, list_taken};
 
 /// Adds the warnings of rule 51, where it is asked for.
 fn push_noinstr(
@@ -61,6 +64,22 @@ fn push_sls(
     push_bare(linked, graph, into)
 }
 
+/// The places whose addresses are taken.
+fn taken_set(alloc: Global, linked: &Linked<'_, '_>) -> Result<PlaceSet, NoMemory>
+    ensures { IfOk result (HaveSamePlaces (taken_places linked.now)) }
+{
+    let listed = list_taken(alloc, linked)?;
+    PlaceSet::build(alloc, &listed)
+}
+
+/// Those that go without an ENDBR all the same.
+fn excused_set(alloc: Global, object: &Object<'_>) -> Result<PlaceSet, NoMemory>
+    ensures { IfOk result (HaveSamePlaces (excused_places object.now)) }
+{
+    let listed = list_excused(alloc, object)?;
+    PlaceSet::build(alloc, &listed)
+}
+
 /// Adds the warnings of rule 54, where it is asked for.
 fn push_ibt(
     alloc: Global,
@@ -75,10 +94,10 @@ fn push_ibt(
     if !options.ibt {
         return Ok(());
     }
-    let listed = list_taken(alloc, linked)?;
-    let taken = PlaceSet::build(alloc, &listed)?;
+    let taken = taken_set(alloc, linked)?;
+    let excused = excused_set(alloc, linked.object())?;
     let places = PointPlaces::build(alloc, linked)?;
-    push_taken(&places, graph, &taken, into)
+    push_taken(&places, graph, &taken, &excused, into)
 }
 
 /// The warnings of the entry rules that the options ask for, of an object whose code is read, by the control-flow

@@ -11,7 +11,6 @@ mod listing;
 mod noinstr;
 mod options;
 mod taken;
-mod targets;
 
 pub use entry_check::check;
 pub use law::rules_are_kept;

@@ -1,6 +1,6 @@
 use Rattle.std.proofs.Common.{List, sym, ap, ◌∙◌, length, subst}
 use Rattle.std.proofs.lemmas.Result.{on_ok_weaker}
-use Rattle.ot_base.specs.declared.place.Place.{Place}
+use Rattle.elf_objects.specs.Elf.{Elf}
 use Rattle.flow_defs.specs.Code.{points_of_object}
 use Rattle.flow_defs.specs.Coded.{Coded}
 use Rattle.flow_defs.specs.Program.{program_of}
@@ -9,19 +9,19 @@ use Rattle.program_graph.specs.Tells.{Tells}
 use Rattle.stack_rules.specs.Gains.{Gains}
 use Rattle.entry_rules.specs.ObjectFacts.{facts_of}
 use Rattle.entry_rules.specs.PointWarns.{TakenWarns}
-use Rattle.entry_rules.specs.Taken.{taken_places}
+use Rattle.taken_places.specs.Taken.{excused_places, taken_places}
 use Rattle.entry_rules.proofs.AskedRules.{asked_for, points_listed, unasked}
 use Rattle.entry_rules.proofs.entry_check.push_ibt.Goals as goal
 
 pub push_taken-requires-clause-listed : goal.push_taken-requires-clause-listed
 push_taken-requires-clause-listed c = points_listed c.args.linked.now c.args.graph.now.parts c.requires ∙ ap (λ (o : Coded). length (points_of_object o)) (sym c.in_ok-places.ensures)
 
--- the set is of the places that are listed, which are those whose addresses are taken
 pub push_taken-requires-clause-taken : goal.push_taken-requires-clause-taken
-push_taken-requires-clause-taken c =
-    let places : List Place = c.deref.result.now in
-    let listed : HaveSamePlaces (taken_places c.args.linked.now) places = subst (λ (ps : List Place). HaveSamePlaces (taken_places c.args.linked.now) ps) (sym c.deref.ensures.value) c.in_ok-listed.ensures in
-    subst (λ (o : Coded). HaveSamePlaces (taken_places o) c.in_ok-taken.taken) (sym c.in_ok-places.ensures) (record { same = λ place. c.in_ok-taken.ensures.same place ∙ listed.same place })
+push_taken-requires-clause-taken c = subst (λ (o : Coded). HaveSamePlaces (taken_places o) c.in_ok-taken.taken) (sym c.in_ok-places.ensures) c.in_ok-taken.ensures
+
+pub push_taken-requires-clause-excused : goal.push_taken-requires-clause-excused
+push_taken-requires-clause-excused c =
+    subst (λ (e : Elf). HaveSamePlaces (excused_places e) c.in_ok-excused.excused) (c.object.ensures ∙ ap (λ (o : Coded). o.elf) (sym c.in_ok-places.ensures)) c.in_ok-excused.ensures
 
 pub returns : goal.returns
 returns c = on_ok_weaker c.push_taken.result (λ h lists tells.

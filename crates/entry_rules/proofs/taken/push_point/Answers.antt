@@ -1,4 +1,4 @@
-use Rattle.std.proofs.Common.{sym, ap, ◌∙◌}
+use Rattle.std.proofs.Common.{◌&&◌, not, sym, ap, ap₂, ◌∙◌}
 use Rattle.std.proofs.lemmas.Result.{on_ok_weaker}
 use Rattle.ot_base.specs.declared.place.Place.{Place}
 use Rattle.operation_defs.specs.declared.insn.Insn.{Insn}
@@ -14,9 +14,9 @@ returns c = on_ok_weaker c.push_if.result (λ gains lists tells.
     let o : Coded = c.args.places.now in
     let p : Program = program_of o lists in
     let place : Place = c.place-place.result in
-    one_entered o lists c.args.n c.args.into.now.items c.push_if.new.into.items c.entry_of_point.result c.in-Some.entry place c.contains.result c.entry_of_point.ensures.is c.in-Some.is
+    one_entered o lists c.args.n c.args.into.now.items c.push_if.new.into.items c.entry_of_point.result c.in-Some.entry place c.asks_endbr.result c.entry_of_point.ensures.is c.in-Some.is
     (c.place-place.ensures p tells)
-    (c.contains.ensures ∙ c.requires.taken.same place)
+    (c.asks_endbr.ensures ∙ ap₂ (λ a b. a && not b) (c.requires.taken.same place) (c.requires.excused.same place))
     (sym (ap (λ (i : Insn). is_endbr i.op) (c.insn.ensures p tells)) ∙ sym c.is_endbr.ensures ∙ c.if-is_endbr.false) gains) c.push_if.ensures
 
 pub returns-then-is_endbr : goal.returns-then-is_endbr

@@ -1,0 +1,9 @@
+use Rattle.std.proofs.Common.{◌≡◌, ◌++◌, take}
+use Rattle.std.specs.Prelude.{filter_map}
+use Rattle.elf_objects.specs.Contents.{relocs_at}
+use Rattle.x86_text.specs.Code.{code_of}
+use Rattle.taken_places.specs.Taken.{address_in_code}
+use Rattle.taken_places.proofs.targets.push_text.Given as goal
+
+abbrev pub invariant-loop-i : goal.invariant-loop-i
+invariant-loop-i l = l.places.items ≡ l.fn.places.items ++ filter_map (address_in_code l.object (code_of l.text.text)) (take l.i (relocs_at l.object l.text.sec))
