@@ -10,7 +10,8 @@ _objtool() {
     # the options of a command, and how many names of files it has
     case ${COMP_WORDS[1]} in
     check) files=2 options='--fp --retpoline --rethunk --uaccess --no-unreachable --link --module --backtrace --all-opcodes --names= ' ;;
-    sites | cfi) files=2 options='--all-opcodes --names= ' ;;
+    sites) files=2 options='--module --all-opcodes --names= ' ;;
+    cfi) files=2 options='--all-opcodes --names= ' ;;
     entry) files=1 options='--noinstr --sls --ibt --all-opcodes --names= ' ;;
     show) files=1 options='--function= --all-opcodes --names= ' ;;
     unwind | merge) files=2 ;;

@@ -23,7 +23,7 @@ complete -c objtool -n 'contains -- (commandline -opc)[2] check; and not __fish_
 complete -c objtool -n 'contains -- (commandline -opc)[2] check; and not __fish_contains_opt uaccess' -l uaccess -d 'Check that user access is off outside of listed functions'
 complete -c objtool -n 'contains -- (commandline -opc)[2] check; and not __fish_contains_opt no-unreachable' -l no-unreachable -d 'Do not check that each instruction is reached'
 complete -c objtool -n 'contains -- (commandline -opc)[2] check; and not __fish_contains_opt link' -l link -d 'Let code that a linker left without a symbol stand unreached'
-complete -c objtool -n 'contains -- (commandline -opc)[2] check; and not __fish_contains_opt module' -l module -d 'Take the object for part of a module, so that .init.text counts too'
+complete -c objtool -n 'contains -- (commandline -opc)[2] check sites; and not __fish_contains_opt module' -l module -d 'Take the object for part of a module, so that .init.text counts too'
 complete -c objtool -n 'contains -- (commandline -opc)[2] check; and not __fish_contains_opt backtrace' -l backtrace -d 'Print where each warning is and how control came there'
 complete -c objtool -n 'contains -- (commandline -opc)[2] entry; and not __fish_contains_opt noinstr' -l noinstr -d 'Check that code that is not instrumented calls no code that is'
 complete -c objtool -n 'contains -- (commandline -opc)[2] entry; and not __fish_contains_opt sls' -l sls -d 'Check that an INT3 stands behind each return and each indirect jump'

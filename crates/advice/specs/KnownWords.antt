@@ -22,7 +22,7 @@ abbrev pub option_words : CommandWord → List Word
 option_words the.Check =
     codes "--fp" ∷ codes "--retpoline" ∷ codes "--rethunk" ∷ codes "--uaccess" ∷ codes "--no-unreachable" ∷ codes "--link" ∷ codes "--module"
     ∷ codes "--backtrace" ∷ codes "--all-opcodes" ∷ codes "--names=" ∷ []
-option_words the.Sites = codes "--all-opcodes" ∷ codes "--names=" ∷ []
+option_words the.Sites = codes "--module" ∷ codes "--all-opcodes" ∷ codes "--names=" ∷ []
 option_words the.Cfi = codes "--all-opcodes" ∷ codes "--names=" ∷ []
 option_words the.Entry = codes "--noinstr" ∷ codes "--sls" ∷ codes "--ibt" ∷ codes "--all-opcodes" ∷ codes "--names=" ∷ []
 option_words the.Show = codes "--function=" ∷ codes "--all-opcodes" ∷ codes "--names=" ∷ []

@@ -6,7 +6,7 @@ use Rattle.clap.specs.Takes.{default_passes, entered_passes, is_valid, level_pas
 use Rattle.clap.specs.Walk.{Names, Text, Walk, finished, nothing_held, rows_after, walk, walk_from, walked}
 use Rattle.clap.specs.Words.{built, is_simple}
 use Rattle.clap.proofs.OnLiterals.{clap_on_literals}
-use Rattle.cli_matches.specs.Definition.{check_app, demo_app, entry_app, explain_app, file_app, find_app, line_app, merge_app, rewriting_app, show_app, unwind_app}
+use Rattle.cli_matches.specs.Definition.{check_app, demo_app, entry_app, explain_app, file_app, find_app, line_app, merge_app, rewriting_app, show_app, sites_app, unwind_app}
 
 abbrev pub top : Shape
 top = (built line_app).top
@@ -56,7 +56,7 @@ pub unwind_enters : Enters (codes "unwind") (leaf_of unwind_app)
 unfolding clap_on_literals
 unwind_enters = record { met = refl; passes = refl; finds = λ words. refl; levels = λ words. refl }
 
-pub sites_enters : Enters (codes "sites") (leaf_of (rewriting_app (codes "sites")))
+pub sites_enters : Enters (codes "sites") (leaf_of sites_app)
 unfolding clap_on_literals
 sites_enters = record { met = refl; passes = refl; finds = λ words. refl; levels = λ words. refl }
 

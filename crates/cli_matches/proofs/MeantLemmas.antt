@@ -24,14 +24,14 @@ use Rattle.cli_words.specs.declared.word.CommandWord.TheVariants as the
 use Rattle.cli_words.specs.Grammar.{Command, asked, command_in, command_meaning, demo, explain, find, first_fault, first_meaning, help, line_meaning, lone_meaning, meaning, name_fault, option_fault, or_missing, unless, version, word_fault}
 use Rattle.cli_words.specs.Numbers.{address_of, number_of}
 use Rattle.cli_words.specs.Words.{Word, command_named, gives, is_option, is_option_of, is_same_option, names_in, places_of, value_given}
-use Rattle.cli_matches.specs.Definition.{check_app, demo_app, entry_app, explain_app, file_app, find_app, line_app, merge_app, rewriting_app, show_app, unwind_app}
+use Rattle.cli_matches.specs.Definition.{check_app, demo_app, entry_app, explain_app, file_app, find_app, line_app, merge_app, rewriting_app, show_app, sites_app, unwind_app}
 use Rattle.cli_matches.specs.Matches.{Says, SaysPair, SaysSwitch, request_of}
 use Rattle.cli_matches.proofs.Built.{Enters, cfa_enters, cfi_enters, check_enters, demo_enters, dump_enters, entry_enters, explain_enters, find_enters, leaf_of, line_finds, line_is_simple, line_takes, list_enters, merge_enters, show_enters, sites_enters, unwind_enters}
 use Rattle.cli_matches.proofs.OptionFacts.{AllAre, HasOptions, dashed, start_of}
 use Rattle.cli_matches.proofs.OptionReads.{SaysFiles, each_said, each_value_said, files_said, line_passes, map_said, rewriting_said}
 use Rattle.cli_matches.proofs.OptionWalk.{is_own, no_fault, or_case, places}
 use Rattle.cli_matches.proofs.PlainReads.{AsksOne, AsksTwo, demo_asks, explain_alone, explain_asks, file_asks, find_asks, merge_asks, one_found, one_level, two_found, two_level, unwind_asks}
-use Rattle.cli_matches.proofs.Rewritings.{check_facts, check_switches, common_facts, common_switches, entry_facts, entry_switches, names_alone, show_facts, show_known, show_switches, show_values}
+use Rattle.cli_matches.proofs.Rewritings.{check_facts, check_switches, common_facts, common_switches, entry_facts, entry_switches, names_alone, show_facts, show_known, show_switches, show_values, sites_facts, sites_switches}
 
 -- clap takes the words, and its matches say the command
 pub record Reads (words : List Word) (command : Command) : Type 0 where
@@ -124,12 +124,18 @@ check_files [] words meant e = cc
 check_files (input ∷ []) words meant e = cc
 check_files (input ∷ (output ∷ (more ∷ ws))) words meant e = cc
 
-sites_files : (ws words : List Word) (meant : Command) → asked the.Sites ws words ≡ Some meant → AsksFiles (codes "sites") true names_alone common_switches ws words meant
+sites_files : (ws words : List Word) (meant : Command) → asked the.Sites ws words ≡ Some meant → AsksFiles (codes "sites") true names_alone sites_switches ws words meant
 unfolding asked
 sites_files (input ∷ (output ∷ [])) words meant e = record {
   has_input = refl;
   has_output = refl;
-  says = λ rows each values files. subst (Says (Some (codes "sites", rows))) (some_is _ meant e) (refl, rewriting_said rows input output words files values.first each.first);
+  says = λ rows each values files. subst (Says (Some (codes "sites", rows))) (some_is _ meant e) (
+    refl,
+    record {
+      rewriting = rewriting_said rows input output words files values.first each.rest.first;
+      «module» = each.first;
+    },
+  );
 }
 sites_files [] words meant e = cc
 sites_files (input ∷ []) words meant e = cc
@@ -355,7 +361,7 @@ module _ (word : Word) (words : List Word) (meant : Command) where
       named_or (codes "check") the.Check _ (files_read the.Check (codes "check") (leaf_of check_app) true names_alone check_switches check_enters check_facts (λ w is. is) refl check_files words meant)
       (named_or (codes "dump") the.Dump _ (one_read the.Dump (codes "dump") (codes "FILE") (leaf_of (file_app (codes "dump"))) dump_enters (file_asks (codes "dump")) (λ w. refl) dump_one words meant)
       (named_or (codes "unwind") the.Unwind _ (two_read the.Unwind (codes "unwind") (codes "FILE") (codes "IMAGE") (leaf_of unwind_app) unwind_enters unwind_asks (λ w. refl) unwind_two words meant)
-      (named_or (codes "sites") the.Sites _ (files_read the.Sites (codes "sites") (leaf_of (rewriting_app (codes "sites"))) true names_alone common_switches sites_enters (common_facts (codes "sites")) (λ w is. is) refl sites_files words meant)
+      (named_or (codes "sites") the.Sites _ (files_read the.Sites (codes "sites") (leaf_of sites_app) true names_alone sites_switches sites_enters sites_facts (λ w is. is) refl sites_files words meant)
       (named_or (codes "list") the.List _ (one_read the.List (codes "list") (codes "FILE") (leaf_of (file_app (codes "list"))) list_enters (file_asks (codes "list")) (λ w. refl) list_one words meant)
       (named_or (codes "entry") the.Entry _ (files_read the.Entry (codes "entry") (leaf_of entry_app) false names_alone entry_switches entry_enters entry_facts (λ w is. is) refl entry_files words meant)
       (named_or (codes "cfi") the.Cfi _ (files_read the.Cfi (codes "cfi") (leaf_of (rewriting_app (codes "cfi"))) true names_alone common_switches cfi_enters (common_facts (codes "cfi")) (λ w is. is) refl cfi_files words meant)

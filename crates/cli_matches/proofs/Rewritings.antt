@@ -5,7 +5,7 @@ use Rattle.clap.specs.Takes.{settle_passes}
 use Rattle.clap.specs.Walk.{Text, pushed, settled}
 use Rattle.clap.proofs.OnLiterals.{clap_on_literals}
 use Rattle.cli_words.specs.Words.{Word, is_function_option, is_names_option, is_same_option, is_show_option}
-use Rattle.cli_matches.specs.Definition.{check_app, entry_app, rewriting_app, show_app}
+use Rattle.cli_matches.specs.Definition.{check_app, entry_app, rewriting_app, show_app, sites_app}
 use Rattle.cli_matches.proofs.Built.{leaf_of}
 use Rattle.cli_matches.proofs.Leaves.{and_false, at_idle, name_passes, name_walked}
 use Rattle.cli_matches.proofs.OptionFacts.{HasPlace, HasOptions, HasSwitch, HasValue, rows_held, rule_named, valued}
@@ -119,7 +119,74 @@ check_facts = record {
   level = λ words. refl;
 }
 
--- ---- `sites` and `cfi`, which differ in their name alone
+-- ---- `sites`
+
+abbrev T : Shape
+T = leaf_of sites_app
+
+sites_module : HasSwitch T names_alone (codes "module")
+unfolding clap_on_literals
+sites_module = record { walks = λ h position. refl; passes = λ h position. refl; is_used = λ rows absent. set_appends (rule_named T (codes "module")) (codes "true" ∷ []) rows absent; settles = λ h. refl; rows_are = λ h. refl; id = refl; no_input = refl; no_output = refl; not_input = λ word. refl; not_output = λ word. refl; apart = record { first = record { gives_no_value = refl; no_row = refl; not_row = λ value. refl; not_word = λ value. refl }; rest = tt }; says = elim [ true ↦ refl | false ↦ refl ] }
+
+sites_all_opcodes : HasSwitch T names_alone (codes "all-opcodes")
+unfolding clap_on_literals
+sites_all_opcodes = record { walks = λ h position. refl; passes = λ h position. refl; is_used = λ rows absent. set_appends (rule_named T (codes "all-opcodes")) (codes "true" ∷ []) rows absent; settles = λ h. refl; rows_are = λ h. refl; id = refl; no_input = refl; no_output = refl; not_input = λ word. refl; not_output = λ word. refl; apart = record { first = record { gives_no_value = refl; no_row = refl; not_row = λ value. refl; not_word = λ value. refl }; rest = tt }; says = elim [ true ↦ refl | false ↦ refl ] }
+
+sites_input : HasPlace T (codes "IN") 1
+unfolding clap_on_literals
+sites_input = record {
+  walks = λ h word e. name_walked T h 1 word e ∙ ap (λ b. at_idle (pushed (codes "IN") word (cond b h (settled T.rules h))) 2) (and_false _);
+  passes = λ h word e settles. name_passes T h 1 word e ∙ ap (λ b. b || settle_passes T.rules false h) (and_false _) ∙ settles;
+  settles = λ h word absent. ap (λ b. (not b || false) && true) absent;
+  rows_are = λ h word absent. set_appends (rule_named T (codes "IN")) (word ∷ []) (rows_held T h) absent;
+}
+
+sites_output : HasPlace T (codes "OUT") 2
+unfolding clap_on_literals
+sites_output = record {
+  walks = λ h word e. name_walked T h 2 word e ∙ ap (λ b. at_idle (pushed (codes "OUT") word (cond b h (settled T.rules h))) 3) (and_false _);
+  passes = λ h word e settles. name_passes T h 2 word e ∙ ap (λ b. b || settle_passes T.rules false h) (and_false _) ∙ settles;
+  settles = λ h word absent. ap (λ b. (not b || false) && true) absent;
+  rows_are = λ h word absent. set_appends (rule_named T (codes "OUT")) (word ∷ []) (rows_held T h) absent;
+}
+
+sites_names : HasValue T names_alone (codes "names")
+unfolding clap_on_literals
+sites_names = record {
+  among = inl refl;
+  walks = λ h value position. refl;
+  passes = λ h value position. refl;
+  settles = λ h value. refl;
+  rows_are = λ h value absent. set_appends (rule_named T (codes "names")) (value ∷ []) (rows_held T h) absent;
+  default = refl;
+  id = refl;
+  gives = λ value. refl;
+  same = λ value word is. same_names (valued (codes "names") value) word refl is;
+  no_input = λ value. refl;
+  no_output = λ value. refl;
+  not_input = λ word. refl;
+  not_output = λ word. refl;
+  others = record { first = λ apart value. cc; rest = tt };
+}
+
+abbrev pub sites_switches : List Text
+sites_switches = codes "module" ∷ (codes "all-opcodes" ∷ [])
+
+pub sites_facts : HasOptions T true names_alone sites_switches
+unfolding clap_on_literals
+sites_facts = record {
+  input = sites_input;
+  output = λ writes. sites_output;
+  input_id = refl;
+  output_id = refl;
+  input_default = refl;
+  output_default = refl;
+  each = record { first = sites_module; rest = record { first = sites_all_opcodes; rest = tt } };
+  each_value = record { first = sites_names; rest = tt };
+  level = λ words. refl;
+}
+
+-- ---- `cfi`
 
 abbrev S : Text → Shape
 S name = leaf_of (rewriting_app name)

@@ -5,13 +5,14 @@ use Rattle.clap.specs.Words.{Row, Text, first_of}
 use Rattle.x86_map.specs.declared.map.Map.{Map}
 use Rattle.cli_words.specs.declared.options.CheckOptions.{CheckOptions}
 use Rattle.cli_words.specs.declared.options.EntryRules.{EntryRules}
+use Rattle.cli_words.specs.declared.options.SiteOptions.{SiteOptions}
 use Rattle.cli_words.specs.declared.word.CommandWord.{CommandWord}
 use Rattle.cli_words.specs.declared.word.CommandWord.TheVariants as the
 use Rattle.cli_words.specs.Grammar.{Command, cfa, cfi, check, demo, dump, entry, explain, find, help, list, merge, show, sites, unwind, version}
 use Rattle.cli_words.specs.Numbers.{address_of, number_of}
 use Rattle.cli_words.specs.Words.{Word, command_named}
 use Rattle.cli_matches.specs.declared.reading.Rewriting.{Rewriting}
-use Rattle.cli_matches.specs.Matches.{Says, SaysArguments, SaysCheck, SaysEntry, SaysPair, SaysRewriting, SaysShow, name_of}
+use Rattle.cli_matches.specs.Matches.{Says, SaysArguments, SaysCheck, SaysEntry, SaysPair, SaysRewriting, SaysShow, SaysSites, name_of}
 
 pub some_of : {X : Type 0} (x y : X) → Some x ≡ Some y → x ≡ y
 some_of x y e = ap (λ o. unwrap_or o x) e
@@ -35,7 +36,7 @@ abbrev word_of : Command → Option CommandWord
 word_of (check input output options names) = Some the.Check
 word_of (dump file) = Some the.Dump
 word_of (unwind file image) = Some the.Unwind
-word_of (sites input output map names) = Some the.Sites
+word_of (sites input output options map names) = Some the.Sites
 word_of (list file) = Some the.List
 word_of (entry input rules map names) = Some the.Entry
 word_of (cfi input output map names) = Some the.Cfi
@@ -52,7 +53,7 @@ named : (asked : Command) → option_and_then command_named (name_of asked) ≡ 
 named (check input output options names) = refl
 named (dump file) = refl
 named (unwind file image) = refl
-named (sites input output map names) = refl
+named (sites input output options map names) = refl
 named (list file) = refl
 named (entry input rules map names) = refl
 named (cfi input output map names) = refl
@@ -73,7 +74,7 @@ abbrev pub IsReadAs : CommandWord → List Row → Option Command → Type 0
 IsReadAs the.Check rows read = (i o : Word) (options : CheckOptions) (names : Option Word) → SaysCheck rows i o options names → read ≡ Some (check i o options names)
 IsReadAs the.Dump rows read = (file : Word) → first_of (codes "FILE") rows ≡ Some file → read ≡ Some (dump file)
 IsReadAs the.Unwind rows read = (file image : Word) → SaysPair rows (codes "FILE") (codes "IMAGE") file image → read ≡ Some (unwind file image)
-IsReadAs the.Sites rows read = (i o : Word) (map : Map) (names : Option Word) → SaysRewriting rows i o map names → read ≡ Some (sites i o map names)
+IsReadAs the.Sites rows read = (i o : Word) (options : SiteOptions) (map : Map) (names : Option Word) → SaysSites rows i o options map names → read ≡ Some (sites i o options map names)
 IsReadAs the.List rows read = (file : Word) → first_of (codes "FILE") rows ≡ Some file → read ≡ Some (list file)
 IsReadAs the.Entry rows read = (input : Word) (rules : EntryRules) (map : Map) (names : Option Word) → SaysEntry rows input rules map names → read ≡ Some (entry input rules map names)
 IsReadAs the.Cfi rows read = (i o : Word) (map : Map) (names : Option Word) → SaysRewriting rows i o map names → read ≡ Some (cfi i o map names)
@@ -92,7 +93,7 @@ module _ (name : Text) (rows : List Row) (read : Option Command) where
   by_word word (check i o options names) is known says = as_word the.Check word is known i o options names says
   by_word word (dump file) is known says = as_word the.Dump word is known file says
   by_word word (unwind file image) is known says = as_word the.Unwind word is known file image says
-  by_word word (sites i o map names) is known says = as_word the.Sites word is known i o map names says
+  by_word word (sites i o options map names) is known says = as_word the.Sites word is known i o options map names says
   by_word word (list file) is known says = as_word the.List word is known file says
   by_word word (entry input rules map names) is known says = as_word the.Entry word is known input rules map names says
   by_word word (cfi i o map names) is known says = as_word the.Cfi word is known i o map names says
@@ -113,7 +114,7 @@ module _ (name : Text) (rows : List Row) (read : Option Command) where
   no_word (check i o options names) is says = cc
   no_word (dump file) is says = cc
   no_word (unwind file image) is says = cc
-  no_word (sites i o map names) is says = cc
+  no_word (sites i o options map names) is says = cc
   no_word (list file) is says = cc
   no_word (entry input rules map names) is says = cc
   no_word (cfi i o map names) is says = cc

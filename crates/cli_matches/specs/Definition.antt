@@ -65,6 +65,12 @@ check_app =
     let app = with_rule app (switch_rule (codes "backtrace")) in
     with_common_options app
 
+abbrev pub sites_app : App
+sites_app =
+    let app = pair_app (codes "sites") (codes "IN") (codes "OUT") in
+    let app = with_rule app (switch_rule (codes "module")) in
+    with_common_options app
+
 abbrev pub entry_app : App
 entry_app =
     let app = with_rule (command_app (codes "entry")) (place_rule (codes "IN")) in
@@ -121,7 +127,7 @@ line_app =
     let app = with_subcommand program_app check_app.top in
     let app = with_subcommand app (file_app (codes "dump")).top in
     let app = with_subcommand app unwind_app.top in
-    let app = with_subcommand app (rewriting_app (codes "sites")).top in
+    let app = with_subcommand app sites_app.top in
     let app = with_subcommand app (file_app (codes "list")).top in
     let app = with_subcommand app entry_app.top in
     let app = with_subcommand app (rewriting_app (codes "cfi")).top in

@@ -6,6 +6,7 @@ use Rattle.clap.specs.declared.error.ErrorKind.TheVariants.{DisplayHelp, Display
 use Rattle.clap.specs.declared.ArgMatches.{ArgMatches}
 use Rattle.cli_words.specs.declared.options.CheckOptions.{CheckOptions}
 use Rattle.cli_words.specs.declared.options.EntryRules.{EntryRules}
+use Rattle.cli_words.specs.declared.options.SiteOptions.{SiteOptions}
 use Rattle.x86_map.specs.declared.map.Map.{Map}
 use Rattle.x86_map.specs.declared.map.Map.TheVariants.{Base, Whole}
 use Rattle.cli_words.specs.Words.{Word}
@@ -44,6 +45,11 @@ pub record SaysCheck (rows : List Row) (input output : Word) (options : CheckOpt
   pub «module» : SaysSwitch rows (codes "module") options.rules.module
   pub backtrace : SaysSwitch rows (codes "backtrace") options.backtrace
 
+-- the matches of `sites` say this
+pub record SaysSites (rows : List Row) (input output : Word) (options : SiteOptions) (map : Map) (names : Option Word) : Type 0 where
+  pub rewriting : SaysRewriting rows input output map names
+  pub «module» : SaysSwitch rows (codes "module") options.module
+
 -- the matches of `entry` say this
 pub record SaysEntry (rows : List Row) (input : Word) (rules : EntryRules) (map : Map) (names : Option Word) : Type 0 where
   pub input_is : first_of (codes "IN") rows ≡ Some input
@@ -69,7 +75,7 @@ abbrev pub name_of : Command → Option Text
 name_of (check input output options names) = Some (codes "check")
 name_of (dump file) = Some (codes "dump")
 name_of (unwind file image) = Some (codes "unwind")
-name_of (sites input output map names) = Some (codes "sites")
+name_of (sites input output options map names) = Some (codes "sites")
 name_of (list file) = Some (codes "list")
 name_of (entry input rules map names) = Some (codes "entry")
 name_of (cfi input output map names) = Some (codes "cfi")
@@ -87,7 +93,7 @@ abbrev pub SaysArguments : List Row → Command → Type 0
 SaysArguments rows (check input output options names) = SaysCheck rows input output options names
 SaysArguments rows (dump file) = first_of (codes "FILE") rows ≡ Some file
 SaysArguments rows (unwind file image) = SaysPair rows (codes "FILE") (codes "IMAGE") file image
-SaysArguments rows (sites input output map names) = SaysRewriting rows input output map names
+SaysArguments rows (sites input output options map names) = SaysSites rows input output options map names
 SaysArguments rows (list file) = first_of (codes "FILE") rows ≡ Some file
 SaysArguments rows (entry input rules map names) = SaysEntry rows input rules map names
 SaysArguments rows (cfi input output map names) = SaysRewriting rows input output map names

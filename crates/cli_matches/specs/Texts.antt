@@ -71,6 +71,7 @@ help_text =
     ++ codes "  <OUT>  The file to write, which may have the name IN\n"
     ++ codes "\n"
     ++ codes "Options:\n"
+    ++ codes "      --module        Take the object for part of a module, so that .init.text counts too\n"
     ++ codes "      --all-opcodes   Read vector, virtualization and newer system instructions too\n"
     ++ codes "      --names=<FILE>  Add the function names of FILE to the lists that are built in\n"
     ++ codes "\n"

@@ -2,7 +2,7 @@
 
 ghost use Rattle.std.specs.Prelude.{◌≡◌, IfOk, codes};
 ghost use Rattle.clap.specs.Words.{app_of};
-ghost use Rattle.cli_matches.specs.Definition.{check_app, demo_app, entry_app, explain_app, file_app, find_app, line_app, merge_app, program_app, rewriting_app, show_app, unwind_app};
+ghost use Rattle.cli_matches.specs.Definition.{check_app, demo_app, entry_app, explain_app, file_app, find_app, line_app, merge_app, program_app, rewriting_app, show_app, sites_app, unwind_app};
 
 use crate::making::{
     command, of_file, rewriting, with_command, with_common_options, with_objects, with_optional,
@@ -123,9 +123,17 @@ pub fn unwind<'a>(alloc: Global) -> Result<Command<'a>, AllocError>
 
 /// The command `sites`, with its words and options.
 pub fn sites<'a>(alloc: Global) -> Result<Command<'a>, AllocError>
-    ensures { IfOk result (λ command. app_of command ≡ rewriting_app (codes "sites")) }
+    ensures { IfOk result (λ command. app_of command ≡ sites_app) }
 {
-    rewriting(alloc, "sites", "objtool sites", SITES)
+    let sites = command(alloc, "sites", "objtool sites", SITES);
+    let sites = with_objects(alloc, sites);
+    let sites = with_switch(
+        alloc,
+        sites,
+        "module",
+        "Take the object for part of a module, so that .init.text counts too",
+    );
+    with_common_options(alloc, sites)
 }
 
 /// The command `list`, with its word.

@@ -4,18 +4,20 @@ ghost use Rattle.std.specs.Prelude.{◌≡◌, Ok, Option, Some, codes, map, str
 ghost use Rattle.clap.specs.Words.{first_of, subcommand_rows_of};
 ghost use Rattle.cli_words.specs.declared.options.CheckOptions.{CheckOptions};
 ghost use Rattle.cli_words.specs.declared.options.EntryRules.{EntryRules};
+ghost use Rattle.cli_words.specs.declared.options.SiteOptions.{SiteOptions};
 ghost use Rattle.x86_map.specs.declared.map.Map.{Map as MapKind};
 ghost use Rattle.cli_words.specs.Grammar.{Command as Meant, cfa, cfi, check, command_in, demo, dump, entry, explain, find, IsFaultOf, list, meaning, merge, show, sites, unwind};
 ghost use Rattle.cli_words.specs.Numbers.{address_of, number_of};
 ghost use Rattle.cli_words.specs.Words.{Word};
-ghost use Rattle.cli_matches.specs.Matches.{Says, SaysCheck, SaysEntry, SaysPair, SaysRewriting, SaysShow, request_of, rows_in};
+ghost use Rattle.cli_matches.specs.Matches.{Says, SaysCheck, SaysEntry, SaysPair, SaysRewriting, SaysShow, SaysSites, request_of, rows_in};
 
 use crate::arguments::{is_given, map_of, pair_of, text_of};
 use crate::definition::command_line;
 use clap::ArgMatches;
 use clap::error::ErrorKind;
 use cli_words::{
-    CheckOptions, Command, EntryRules, Map, UsageFault, address_of, judge_words, number_of,
+    CheckOptions, Command, EntryRules, Map, SiteOptions, UsageFault, address_of, judge_words,
+    number_of,
 };
 use ot_base::Options;
 use std::alloc::{AllocError, Global};
@@ -94,11 +96,21 @@ fn check_of(alloc: Global, found: &ArgMatches<'_>) -> Result<Option<Command>, Al
     }
 }
 
+/// What the options of `sites` say.
+fn site_options_of(found: &ArgMatches<'_>) -> SiteOptions
+    ensures { (input output : Word) (options : SiteOptions) (map : MapKind) (names : Option Word)
+        → SaysSites (rows_in found.now) input output options map names → result ≡ options }
+{
+    SiteOptions {
+        module: is_given(found, "module"),
+    }
+}
+
 /// The command of `sites`.
 fn sites_of(alloc: Global, found: &ArgMatches<'_>) -> Result<Option<Command>, AllocError>
-    ensures { IfOk result (λ read. (input output : Word) (map : MapKind) (names : Option Word)
-        → SaysRewriting (rows_in found.now) input output map names
-        → option_map command_in read ≡ Some (sites input output map names)) }
+    ensures { IfOk result (λ read. (input output : Word) (options : SiteOptions) (map : MapKind) (names : Option Word)
+        → SaysSites (rows_in found.now) input output options map names
+        → option_map command_in read ≡ Some (sites input output options map names)) }
 {
     match rewriting_of(alloc, found)? {
         Some(
@@ -111,6 +123,7 @@ fn sites_of(alloc: Global, found: &ArgMatches<'_>) -> Result<Option<Command>, Al
         ) => Ok(Some(Command::Sites {
             input,
             output,
+            options: site_options_of(found),
             map,
             names,
         })),

@@ -73,6 +73,7 @@ Arguments:
   <OUT>  The file to write, which may have the name IN
 
 Options:
+      --module        Take the object for part of a module, so that .init.text counts too
       --all-opcodes   Read vector, virtualization and newer system instructions too
       --names=<FILE>  Add the function names of FILE to the lists that are built in
 

@@ -6,6 +6,7 @@ use Rattle.x86_map.specs.declared.map.Map.{Map}
 use Rattle.x86_map.specs.declared.map.Map.TheVariants.{Base, Whole}
 use Rattle.cli_words.specs.declared.options.CheckOptions.{CheckOptions}
 use Rattle.cli_words.specs.declared.options.EntryRules.{EntryRules}
+use Rattle.cli_words.specs.declared.options.SiteOptions.{SiteOptions}
 use Rattle.cli_words.specs.declared.word.CommandWord.{CommandWord}
 use Rattle.cli_words.specs.declared.word.CommandWord.TheVariants as the
 use Rattle.cli_words.specs.declared.fault.UsageKind.{UsageKind}
@@ -23,7 +24,7 @@ pub data Command : Type 0 where
   check : (input output : Word) (options : CheckOptions) (names : Option Word) → Command
   dump : (file : Word) → Command
   unwind : (file image : Word) → Command
-  sites : (input output : Word) (map : Map) (names : Option Word) → Command
+  sites : (input output : Word) (options : SiteOptions) (map : Map) (names : Option Word) → Command
   list : (file : Word) → Command
   entry : (input : Word) (rules : EntryRules) (map : Map) (names : Option Word) → Command
   cfi : (input output : Word) (map : Map) (names : Option Word) → Command
@@ -41,7 +42,7 @@ abbrev pub command_in : declared.Command → Command
 command_in (variant.Check input output options names) = check (string_bytes input) (string_bytes output) options (option_map string_bytes names)
 command_in (variant.Dump file) = dump (string_bytes file)
 command_in (variant.Unwind file image) = unwind (string_bytes file) (string_bytes image)
-command_in (variant.Sites input output map names) = sites (string_bytes input) (string_bytes output) map (option_map string_bytes names)
+command_in (variant.Sites input output options map names) = sites (string_bytes input) (string_bytes output) options map (option_map string_bytes names)
 command_in (variant.List file) = list (string_bytes file)
 command_in (variant.Entry input rules map names) = entry (string_bytes input) rules map (option_map string_bytes names)
 command_in (variant.Cfi input output map names) = cfi (string_bytes input) (string_bytes output) map (option_map string_bytes names)
@@ -118,6 +119,10 @@ map_in words = if gives (codes "--all-opcodes") words then Whole else Base
 abbrev pub options_in : List Word → CheckOptions
 options_in words = record { map = map_in words; rules = rules_in words; backtrace = gives (codes "--backtrace") words }
 
+-- what the options of `sites` say
+abbrev pub site_options_in : List Word → SiteOptions
+site_options_in words = record { «module» = gives (codes "--module") words }
+
 -- the entry rules that the options of `entry` name
 abbrev pub entry_rules_in : List Word → EntryRules
 entry_rules_in words = record {
@@ -131,7 +136,7 @@ unfoldable pub asked : CommandWord → List Word → List Word → Option Comman
 asked the.Check (input ∷ output ∷ []) words = Some (check input output (options_in words) (names_file words))
 asked the.Dump (file ∷ []) words = Some (dump file)
 asked the.Unwind (file ∷ image ∷ []) words = Some (unwind file image)
-asked the.Sites (input ∷ output ∷ []) words = Some (sites input output (map_in words) (names_file words))
+asked the.Sites (input ∷ output ∷ []) words = Some (sites input output (site_options_in words) (map_in words) (names_file words))
 asked the.List (file ∷ []) words = Some (list file)
 asked the.Entry (input ∷ []) words = Some (entry input (entry_rules_in words) (map_in words) (names_file words))
 asked the.Cfi (input ∷ output ∷ []) words = Some (cfi input output (map_in words) (names_file words))

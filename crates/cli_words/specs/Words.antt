@@ -78,6 +78,11 @@ is_check_option word =
     || (bytes_eq word (codes "--module")
     || (bytes_eq word (codes "--backtrace") || is_common_option word)))))))
 
+-- the options of `sites`
+abbrev pub is_sites_option : Word → Bool
+is_sites_option word =
+    bytes_eq word (codes "--module") || is_common_option word
+
 -- the options of `entry`
 abbrev pub is_entry_option : Word → Bool
 is_entry_option word =
@@ -92,7 +97,7 @@ is_show_option word = is_function_option word || is_common_option word
 -- an option of this command
 abbrev pub is_option_of : CommandWord → Word → Bool
 is_option_of the.Check word = is_check_option word
-is_option_of the.Sites word = is_common_option word
+is_option_of the.Sites word = is_sites_option word
 is_option_of the.Cfi word = is_common_option word
 is_option_of the.Entry word = is_entry_option word
 is_option_of the.Show word = is_show_option word

@@ -1,4 +1,4 @@
-use crate::options::{CheckOptions, EntryRules};
+use crate::options::{CheckOptions, EntryRules, SiteOptions};
 use x86_map::Map;
 
 /// What the words of a command line ask for.
@@ -26,6 +26,7 @@ pub enum Command {
     Sites {
         input: String,
         output: String,
+        options: SiteOptions,
         map: Map,
         /// The file of function names, where one is given.
         names: Option<String>,

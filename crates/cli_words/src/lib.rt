@@ -13,6 +13,6 @@ pub use command::Command;
 pub use fault::{UsageFault, UsageKind};
 pub use line::judge_words;
 pub use number::{address_of, number_of};
-pub use options::{CheckOptions, EntryRules};
+pub use options::{CheckOptions, EntryRules, SiteOptions};
 pub use word::CommandWord;
 pub use x86_map::Map;

@@ -12,6 +12,13 @@ pub struct CheckOptions {
     pub backtrace: bool,
 }
 
+/// What the options of `sites` say, but for the opcode map.
+#[derive(Clone, Copy, PartialEq, Eq)]
+pub struct SiteOptions {
+    /// The object is taken for part of a module.
+    pub module: bool,
+}
+
 /// Which entry rules the options of `entry` name.
 #[derive(Clone, Copy, PartialEq, Eq)]
 pub struct EntryRules {

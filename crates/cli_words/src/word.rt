@@ -1,7 +1,7 @@
 //! The words of a command line, one by one.
 
 ghost use Rattle.std.specs.Prelude.{◌≡◌, option_map};
-ghost use Rattle.cli_words.specs.Words.{command_named, file_after, function_after, is_check_option, is_common_option, is_entry_option, is_function_option, is_names_option, is_option, is_option_of, is_same_option, is_show_option, places_of};
+ghost use Rattle.cli_words.specs.Words.{command_named, file_after, function_after, is_check_option, is_common_option, is_entry_option, is_function_option, is_names_option, is_option, is_option_of, is_same_option, is_show_option, is_sites_option, places_of};
 
 /// The word of a command.
 #[derive(Clone, Copy, PartialEq, Eq)]
@@ -75,7 +75,8 @@ impl CommandWord {
     {
         match self {
             CommandWord::Check => is_check_option(word),
-            CommandWord::Sites | CommandWord::Cfi => is_common_option(word),
+            CommandWord::Sites => is_sites_option(word),
+            CommandWord::Cfi => is_common_option(word),
             CommandWord::Entry => is_entry_option(word),
             CommandWord::Show => is_show_option(word),
             _ => false,
@@ -135,6 +136,16 @@ fn is_check_option(word: &str) -> bool
     match word {
         "--fp" | "--retpoline" | "--rethunk" | "--uaccess" => true,
         "--no-unreachable" | "--link" | "--module" | "--backtrace" => true,
+        _ => is_common_option(word),
+    }
+}
+
+/// Whether a word is an option of `sites`.
+fn is_sites_option(word: &str) -> bool
+    ensures { result ≡ is_sites_option word.now }
+{
+    match word {
+        "--module" => true,
         _ => is_common_option(word),
     }
 }
