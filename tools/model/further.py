@@ -38,8 +38,9 @@ def written_objects(program: Program, data: bytes, whole: bool, names: Optional[
     files = {"in.o": data} | ({"names": names} if names is not None else {})
     options = ["--all-opcodes"] * whole + ["--names=names"] * (names is not None)
     for command, (write, reader, read) in WRITERS.items():
-        answer = write(data, whole, names)
-        found += told_apart(program, files, [command, "in.o", "out", *options], answer, reader)
+        asked = {"module": True} if command == "sites" and rng.random() < 0.5 else {}
+        answer = write(data, whole, names, **asked)
+        found += told_apart(program, files, [command, "in.o", "out", *options, *(f"--{option}" for option in asked)], answer, reader)
         if answer.written is not None:
             changed = mutated(answer.written, rng)
             found += told_apart(program, {"changed": changed}, [reader, "changed"], read(changed))

@@ -5,7 +5,7 @@ from typing import Optional
 
 import elf
 from commands import DONE, Answer, answered, first_named, lacking_symbols, object_of, read_code, refuse_sections, text_of_symbol
-from elf import ALLOC, ENTRY, INFO_LINK, PROGBITS, R_PC32, RELA, SHN_LORESERVE, SYMTAB_SHNDX, Object, Place, Reloc
+from elf import ALLOC, ENTRY, GLOBAL, INFO_LINK, PROGBITS, R_PC32, RELA, SHN_LORESERVE, SYMTAB_SHNDX, Object, Place, Reloc
 from elf_make import NewSection
 from output import append, with_section_symbols
 from texts import Refused, place_text
@@ -14,8 +14,17 @@ LISTS = {"retpoline": b".retpoline_sites", "return": b".return_sites", "call": b
 NAMES = tuple(prefix + name for name in LISTS.values() for prefix in (b"", b".rela"))
 
 
-def sites_of(read) -> dict[str, list[Place]]:
-    """The places of each list, ascending."""
+def is_static_call(read, place: Place, insn) -> bool:
+    """Whether a call names a trampoline: the symbol of the first relocation on its last four bytes, which is GLOBAL, and where it goes is known for sure."""
+    if read.functions.branch_target(place, insn).kind not in ("inside", "outside"):
+        return False
+    field = place.off + insn.length - 4
+    sym = next((reloc.sym for reloc in read.object.relocs.get(place.sec, []) if reloc.offset == field), None)
+    return sym is not None and read.object.symbols[sym].bind == GLOBAL and read.object.symbols[sym].name.startswith(b"__SCT__")
+
+
+def sites_of(read, module: bool) -> dict[str, list[Place]]:
+    """The places of each list, ascending; calls of start-up code only where the object is part of a module."""
     found: dict[str, list[Place]] = {kind: [] for kind in LISTS}
     object = read.object
     if not object.symbols:
@@ -25,6 +34,8 @@ def sites_of(read) -> dict[str, list[Place]]:
     for sec in object.texts:
         if sec >= SHN_LORESERVE and not has_numbers:
             continue
+        name = object.sections[sec].name
+        calls = name != b".altinstr_replacement" and (module or name != b".init.text")
         for off, insn in read.code.insns[sec].items():
             place = Place(sec, off)
             if insn.op not in ("Call", "Jmp", "Jcc"):
@@ -34,7 +45,7 @@ def sites_of(read) -> dict[str, list[Place]]:
                 found["retpoline"].append(place)
             elif kind == "return":
                 found["return"].append(place)
-            elif kind != "bad" and insn.op == "Call" and place not in within:
+            elif kind != "bad" and insn.op == "Call" and calls and place not in within and not is_static_call(read, place, insn):
                 found["call"].append(place)
     return found
 
@@ -56,14 +67,14 @@ def lines_of(object: Object, lists: dict[str, list[Place]]) -> list[str]:
     return [f"{kind} {place_text(object, place)}" for kind in LISTS for place in lists[kind]]
 
 
-def sites(data: bytes, whole: bool = False, names_file: Optional[bytes] = None) -> Answer:
+def sites(data: bytes, whole: bool = False, names_file: Optional[bytes] = None, module: bool = False) -> Answer:
     """The answer of `sites`, with the lines that `list` prints of what it writes."""
 
     def answer() -> Answer:
         object, names = object_of(data, names_file)
         read = read_code(object, whole, names)
         refuse_sections(object, NAMES, "a site list", 6)
-        lists = sites_of(read)
+        lists = sites_of(read, module)
         return Answer(DONE, [], lines_of(object, lists), with_lists(object, lists))
 
     return answered(answer)
@@ -87,11 +98,11 @@ def slot_fault(object: Object, i: int, count: int, relocs: list[Reloc], slot: by
 
 
 def places_of(object: Object, name: bytes) -> list[Place]:
-    """The places of the list in the first section with this name."""
+    """The places of the list in the first section with this name: none where there is no such section."""
     there = name.decode()
     sec = first_named(object, name)
     if sec is None:
-        raise Refused(f"no section {there}")
+        return []
     body, relocs = object.sections[sec].body, object.relocs.get(sec, [])
     if len(body) % 4:
         raise Refused(f"section {there}: bad length {len(body)}")
@@ -110,6 +121,8 @@ def listed(data: bytes) -> Answer:
 
     def answer() -> Answer:
         object, _ = object_of(data, None)
+        if all(first_named(object, name) is None for name in LISTS.values()):
+            raise Refused(f"no section {LISTS['retpoline'].decode()}")
         return Answer(DONE, lines_of(object, {kind: places_of(object, name) for kind, name in LISTS.items()}))
 
     return answered(answer)

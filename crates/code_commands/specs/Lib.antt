@@ -6,3 +6,4 @@ pub mod ShowRefused
 pub mod Sites
 pub mod SitesOrder
 pub mod SitesRefused
+pub mod SitesWords

@@ -22,4 +22,4 @@ pub use entry_words::{EntryAsked, entry_options};
 pub use show_telling::show;
 pub use show_words::ShowAsked;
 pub use sites_adding::sites;
-pub use sites_words::SitesAsked;
+pub use sites_words::{SitesAsked, list_options};

@@ -37,7 +37,7 @@ fn add_sites<F: Files, S: Sink>(
 ) -> Status
     requires few { length bytes.now ≤ MAX_FILE_BYTES }
     requires read { IsRead (F.content files.old) asked.input.now (option_map (λ file. file.now) asked.names) bytes.now lists.now }
-    ensures ends { EndsSites asked.entry.map asked.entry.input.now asked.entry.output.now (option_map (λ file. file.now) asked.entry.names)
+    ensures ends { EndsSites asked.entry.options asked.entry.map asked.entry.input.now asked.entry.output.now (option_map (λ file. file.now) asked.entry.names)
         (record { content = F.content files.old; faults = F.faults files.old })
         (record { content = F.content files.new; faults = F.faults files.new })
         (record { written = S.written out.old; faults = S.faults out.old })
@@ -50,7 +50,7 @@ fn add_sites<F: Files, S: Sink>(
         Ok(object) => object,
         Err(fault) => return conclude(alloc, parse_stop(fault), out),
     };
-    let file = match with_its_sites(alloc, asked.map, &object, lists) {
+    let file = match with_its_sites(alloc, asked.map, asked.options, &object, lists) {
         Ok(file) => file,
         Err(stop) => return conclude(alloc, stop, out),
     };
@@ -68,7 +68,7 @@ fn read_and_add<F: Files, S: Sink>(
     files: &mut F,
     out: &mut S,
 ) -> Status
-    ensures ends { EndsSites asked.entry.map asked.entry.input.now asked.entry.output.now (option_map (λ file. file.now) asked.entry.names)
+    ensures ends { EndsSites asked.entry.options asked.entry.map asked.entry.input.now asked.entry.output.now (option_map (λ file. file.now) asked.entry.names)
         (record { content = F.content files.old; faults = F.faults files.old })
         (record { content = F.content files.new; faults = F.faults files.new })
         (record { written = S.written out.old; faults = S.faults out.old })
@@ -99,7 +99,7 @@ pub fn sites<F: Files, S: Sink>(
     out: &mut S,
 ) -> Status
     // What was done to the files and told to the output, and why.
-    ensures ends { EndsSites asked.entry.map asked.entry.input.now asked.entry.output.now (option_map (λ file. file.now) asked.entry.names)
+    ensures ends { EndsSites asked.entry.options asked.entry.map asked.entry.input.now asked.entry.output.now (option_map (λ file. file.now) asked.entry.names)
         (record { content = F.content files.old; faults = F.faults files.old })
         (record { content = F.content files.new; faults = F.faults files.new })
         (record { written = S.written out.old; faults = S.faults out.old })
@@ -107,24 +107,24 @@ pub fn sites<F: Files, S: Sink>(
     // Where it is done and the files tell their content, OUT holds IN with its site lists and the section symbols
     // that these need, and nothing else is changed; its site lists are exactly the sites of IN's code.
     ensures lists { result ≡ Status.Done
-        → OutListsSites asked.entry.map asked.entry.input.now asked.entry.output.now (F.content files.old) (F.content files.new) }
+        → OutListsSites asked.entry.options asked.entry.map asked.entry.input.now asked.entry.output.now (F.content files.old) (F.content files.new) }
     // An input that gets site lists is refused nowhere, with a names file in order where one is given: it is done,
     // unless a fault or want of memory is answered.
     ensures accepts { (read : List ℕ) (object : Elf) (lists : NameLists) (held : Content)
         → F.content files.old ≡ Some held → reading held asked.entry.input.now MAX_FILE_BYTES ≡ Ok read
         → HasNames (Some held) (option_map (λ file. file.now) asked.entry.names) lists
-        → IsObject read object → GetsSites (coded_by asked.entry.map object) lists
+        → IsObject read object → GetsSites asked.entry.options (coded_by asked.entry.map object) lists
         → IsAnswered result }
     // Where the files tell their content: it is refused only where a step finds a refusal, the first that fails, and
     // exactly its line was printed. And where one does, it is refused, unless a fault or want of memory is answered.
     ensures refused { (held : Content) → result ≡ Status.Refused → F.content files.old ≡ Some held
-        → Tells (RefusesSites asked.entry.map asked.entry.input.now (option_map (λ file. file.now) asked.entry.names) held) (S.written out.old) (S.written out.new) }
+        → Tells (RefusesSites asked.entry.options asked.entry.map asked.entry.input.now (option_map (λ file. file.now) asked.entry.names) held) (S.written out.old) (S.written out.new) }
     ensures refuses { (held : Content) (stop : StopValue) → F.content files.old ≡ Some held
-        → RefusesSites asked.entry.map asked.entry.input.now (option_map (λ file. file.now) asked.entry.names) held stop → IsRefusedOrFails result }
+        → RefusesSites asked.entry.options asked.entry.map asked.entry.input.now (option_map (λ file. file.now) asked.entry.names) held stop → IsRefusedOrFails result }
     // A file is changed only at these answers, only where IN gets site lists, and only OUT.
     ensures unchanged { result ≢ Status.Done → result ≢ Status.FileFault → result ≢ Status.NoMemory → F.content files.new ≡ F.content files.old }
     ensures changes { (F.content files.new ≡ F.content files.old)
-        ⊎ SitesMayChange asked.entry.map asked.entry.input.now asked.entry.output.now (option_map (λ file. file.now) asked.entry.names) (F.content files.old) (F.content files.new) }
+        ⊎ SitesMayChange asked.entry.options asked.entry.map asked.entry.input.now asked.entry.output.now (option_map (λ file. file.now) asked.entry.names) (F.content files.old) (F.content files.new) }
     // Nothing is told where it is done.
     ensures silent { result ≡ Status.Done → S.written out.new ≡ S.written out.old }
     ensures files_later { F.faults files.old ≤ F.faults files.new }

@@ -5,6 +5,7 @@ ghost use Rattle.elf_objects.specs.Object.{IsObject};
 ghost use Rattle.elf_objects.specs.declared.TheConstants.{MAX_FILE_BYTES};
 ghost use Rattle.flow_defs.specs.Coded.{coded_by};
 ghost use Rattle.object_points.specs.Linked.{IsLinked};
+ghost use Rattle.site_lists.specs.declared.options.ListOptions.{ListOptions as ListOptionsValue};
 ghost use Rattle.site_lists.specs.Listed.{listed};
 ghost use Rattle.site_lists.specs.Sites.{AreFew, AreSitesIn, sites_of as sites_of_code};
 ghost use Rattle.command_base.specs.Code.{IsInOrder};
@@ -15,7 +16,7 @@ use control_flow::check_flow;
 use elf_objects::Object;
 use object_points::{Linked, PointPlaces};
 use ot_base::{Lists, NoMemory};
-use site_lists::{SiteLists, sites};
+use site_lists::{ListOptions, SiteLists, sites};
 use std::alloc::Global;
 use x86_map::Map;
 
@@ -29,7 +30,7 @@ fn link<'o, 'a>(
     requires { length object.now.bytes ≤ MAX_FILE_BYTES }
     ensures ok { IfOk result (λ linked. linked ≡ coded_by map object.now) }
     ensures right { OnOk result (IsLinked (coded_by map object.now) names.now) }
-    ensures stopped { (bytes : List ℕ) → IsObject bytes object.now → IfErr result (GetNoSites map bytes names.now) }
+    ensures stopped { (options : ListOptionsValue) (bytes : List ℕ) → IsObject bytes object.now → IfErr result (GetNoSites options map bytes names.now) }
 {
     match Linked::link(alloc, map, object, names) {
         Ok(linked) => Ok(linked),
@@ -46,7 +47,7 @@ fn check_code<'a>(
 ) -> Result<(), CommandStop<'a>>
     requires { IsLinked linked.now names.now }
     ensures right { OnOk result (IsInOrder linked.now names.now) }
-    ensures stopped { (bytes : List ℕ) → IsObject bytes linked.now.elf → IfErr result (GetNoSites linked.now.map bytes names.now) }
+    ensures stopped { (options : ListOptionsValue) (bytes : List ℕ) → IsObject bytes linked.now.elf → IfErr result (GetNoSites options linked.now.map bytes names.now) }
 {
     match PointPlaces::build(alloc, linked) {
         Ok(places) => match check_flow(&places) {
@@ -61,17 +62,18 @@ fn check_code<'a>(
 fn sites_of_linked<'a>(
     alloc: Global,
     linked: &Linked<'_, '_>,
+    options: ListOptions,
     names: &Lists,
 ) -> Result<SiteLists, CommandStop<'a>>
     requires { IsLinked linked.now names.now }
-    ensures are { IfOk result (λ lists. listed lists ≡ sites_of_code linked.now) }
+    ensures are { IfOk result (λ lists. listed lists ≡ sites_of_code options linked.now) }
     ensures placed { IfOk result (λ lists. AreSitesIn linked.now.elf (listed lists)) }
     ensures few { IfOk result (λ lists. AreFew (listed lists)) }
     ensures right { OnOk result (IsInOrder linked.now names.now) }
-    ensures stopped { (bytes : List ℕ) → IsObject bytes linked.now.elf → IfErr result (GetNoSites linked.now.map bytes names.now) }
+    ensures stopped { (bytes : List ℕ) → IsObject bytes linked.now.elf → IfErr result (GetNoSites options linked.now.map bytes names.now) }
 {
     check_code(alloc, linked, names)?;
-    match sites(alloc, linked) {
+    match sites(alloc, linked, options) {
         Ok(lists) => Ok(lists),
         Err(NoMemory) => Err(CommandStop::NoMemory),
     }
@@ -82,15 +84,16 @@ pub(crate) fn sites_of<'a>(
     alloc: Global,
     map: Map,
     object: &Object<'a>,
+    options: ListOptions,
     names: &Lists,
 ) -> Result<SiteLists, CommandStop<'a>>
     requires { length object.now.bytes ≤ MAX_FILE_BYTES }
-    ensures are { IfOk result (λ lists. listed lists ≡ sites_of_code (coded_by map object.now)) }
+    ensures are { IfOk result (λ lists. listed lists ≡ sites_of_code options (coded_by map object.now)) }
     ensures placed { IfOk result (λ lists. AreSitesIn object.now (listed lists)) }
     ensures few { IfOk result (λ lists. AreFew (listed lists)) }
     ensures right { OnOk result (IsInOrder (coded_by map object.now) names.now) }
-    ensures stopped { (bytes : List ℕ) → IsObject bytes object.now → IfErr result (GetNoSites map bytes names.now) }
+    ensures stopped { (bytes : List ℕ) → IsObject bytes object.now → IfErr result (GetNoSites options map bytes names.now) }
 {
     let linked = link(alloc, map, object, names)?;
-    sites_of_linked(alloc, &linked, names)
+    sites_of_linked(alloc, &linked, options, names)
 }

@@ -13,7 +13,7 @@ use command_base::{CommandStop, Refusal};
 use elf_objects::{Counted, Object};
 use orc_output::TableFault;
 use ot_base::Lists;
-use site_lists::{lists_are_determined, with_sites};
+use site_lists::{ListOptions, lists_are_determined, with_sites};
 use std::alloc::Global;
 use x86_map::Map;
 
@@ -22,16 +22,17 @@ use x86_map::Map;
 pub(crate) fn with_its_sites<'a>(
     alloc: Global,
     map: Map,
+    options: ListOptions,
     object: &Object<'a>,
     names: &Lists,
 ) -> Result<Vec<u8>, CommandStop<'a>>
     requires short { length object.now.bytes ≤ MAX_FILE_BYTES }
-    ensures gets { OnOk result (GetsSites (coded_by map object.now) names.now) }
-    ensures lists { IfOk result (λ file. ListsSites (coded_by map object.now) file.items) }
-    ensures stopped { (bytes : List ℕ) → IsObject bytes object.now → IfErr result (GetNoSites map bytes names.now) }
+    ensures gets { OnOk result (GetsSites options (coded_by map object.now) names.now) }
+    ensures lists { IfOk result (λ file. ListsSites options (coded_by map object.now) file.items) }
+    ensures stopped { (bytes : List ℕ) → IsObject bytes object.now → IfErr result (GetNoSites options map bytes names.now) }
 {
     lists_are_determined();
-    let lists = sites_of(alloc, map, object, names)?;
+    let lists = sites_of(alloc, map, object, options, names)?;
     check_room(object)?;
     match with_sites(alloc, object, &lists) {
         Ok(file) => Ok(file),

@@ -33,18 +33,18 @@ lists_alike : (o p : Elf) (lists others : Listed) → o ≡ p → lists ≡ othe
 lists_alike o p lists others e f = ap (λ (x : Elf). lists_text x lists) e ∙ ap (lists_text p) f
 
 pub list_law : ListIsDone
-list_law o written lists object is content file holds before after out out' answer told ends nothing =
-    let held : HoldsSites object (sites_of o) = subst (λ (x : Elf). HoldsSites x (sites_of o)) (one_object written _ object lists.reads_back is) lists.holds in
+list_law options o written lists object is content file holds before after out out' answer told ends nothing =
+    let held : HoldsSites object (sites_of options o) = subst (λ (x : Elf). HoldsSites x (sites_of options o)) (one_object written _ object lists.reads_back is) lists.holds in
     no_fault _ (Ok (list file)) before after out out' answer ends nothing
-    (list_answered (Ok (list file)) before after out out' answer file written object (sites_of o) content ends refl told (read_as content MAX_FILE_BYTES file written holds) (record { object = is; held = held }))
+    (list_answered (Ok (list file)) before after out out' answer file written object (sites_of options o) content ends refl told (read_as content MAX_FILE_BYTES file written holds) (record { object = is; held = held }))
     (λ done. (done, printed (listed_file file before after out out' answer (done_as (list file) (Ok (list file)) before after out out' answer ends done refl).0 done)))
   where
-    printed : IsListed file before.content out.written out'.written → out'.written ≡ appending out.written (lists_text object (sites_of o))
+    printed : IsListed file before.content out.written out'.written → out'.written ≡ appending out.written (lists_text object (sites_of options o))
     printed d =
         let same = was_read content MAX_FILE_BYTES file written d.bytes before.content told holds d.may in
         let read : HoldsLists written d.object d.lists = subst (λ (b : List ℕ). HoldsLists b d.object d.lists) same d.held in
-        let all : d.lists ≡ sites_of o = lists.only d.lists (subst (λ (x : Elf). HoldsSites x d.lists) (one_object written d.object _ read.object lists.reads_back) read.held) in
-        d.printed ∙ ap (λ (text : List ℕ). appending out.written text) (lists_alike d.object object d.lists (sites_of o) (one_object written d.object object read.object is) all)
+        let all : d.lists ≡ sites_of options o = lists.only d.lists (subst (λ (x : Elf). HoldsSites x d.lists) (one_object written d.object _ read.object lists.reads_back) read.held) in
+        d.printed ∙ ap (λ (text : List ℕ). appending out.written text) (lists_alike d.object object d.lists (sites_of options o) (one_object written d.object object read.object is) all)
 
 -- ---- call frame information
 

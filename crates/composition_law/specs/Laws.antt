@@ -36,6 +36,7 @@ use Rattle.objtool_cli.specs.Unwinding.{UnwindsBy}
 use Rattle.objtool_cli.specs.CodeSites.{sites_of}
 use Rattle.command_base.specs.List.{lists_text}
 use Rattle.objtool_cli.specs.SiteObjects.{ListsSites}
+use Rattle.objtool_cli.specs.SiteWords.{ListOptions}
 use Rattle.eh_frame.specs.Laws.{rules_of_rows}
 use Rattle.command_base.specs.Cfa.{rules_text}
 use Rattle.objtool_cli.specs.FrameObjects.{TellsRows}
@@ -140,8 +141,8 @@ UnwindIsDone =
 -- exactly these sites, or memory ran out.
 abbrev pub ListIsDone : Type 0
 ListIsDone =
-    (o : Coded) (written : List ℕ)
-    → ListsSites o written
+    (options : ListOptions) (o : Coded) (written : List ℕ)
+    → ListsSites options o written
     → (object : Elf)
     → IsObject written object
     → (content : Content) (file : List ℕ)
@@ -150,7 +151,7 @@ ListIsDone =
     → before.content ≡ Some content
     → Ends (Ok (list file)) before after out out' answer
     → NothingFails before after out out'
-    → ((answer ≡ status.Done) × (out'.written ≡ appending out.written (lists_text object (sites_of o)))) ⊎ (answer ≡ status.NoMemory)
+    → ((answer ≡ status.Done) × (out'.written ≡ appending out.written (lists_text object (sites_of options o)))) ⊎ (answer ≡ status.NoMemory)
 
 -- Where FILE holds bytes that are an object with the call frame information of some rows, and nothing fails, `cfa FILE` ends with status
 -- 0 and has printed the lines of exactly the rules of these rows, or memory ran out.

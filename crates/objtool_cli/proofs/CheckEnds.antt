@@ -22,6 +22,7 @@ use Rattle.command_base.proofs.UnwindLaws.{unwind_no_warnings}
 use Rattle.command_base.proofs.DumpLaws.{dump_no_warnings}
 use Rattle.objtool_cli.proofs.SummaryEnds.{sums_warned}
 use Rattle.command_base.proofs.ListLaws.{list_no_warnings}
+use Rattle.code_commands.specs.SitesWords.{list_options}
 use Rattle.code_commands.proofs.SitesLaws.{sites_no_warnings, sites_silent}
 use Rattle.command_base.proofs.CfaLaws.{cfa_no_warnings}
 use Rattle.objtool_cli.proofs.CfiLaws.{cfi_silent, cfi_warned}
@@ -38,7 +39,7 @@ silent_check input output options names before after out out' x (stopped s h t) 
 
 silent_as : (c : Command) (before after : Outside) (out out' : Output) (x : Status) → EndsAs c before after out out' x → is_silent c ≡ true → x ≡ Done → out'.written ≡ out.written
 silent_as (check input output options names) before after out out' x h writes e = silent_check input output options names before after out out' x h e
-silent_as (sites input output map names) before after out out' x h writes e = sites_silent map input output names before after out out' x h e
+silent_as (sites input output options map names) before after out out' x h writes e = sites_silent (list_options options) map input output names before after out out' x h e
 silent_as (entry input rules map names) before after out out' x h writes e = entry_silent map (entry_options rules) input names before after out out' x h.0 e
 silent_as (cfi input output map names) before after out out' x h writes e = cfi_silent map input output names before after out out' x h e
 silent_as (merge layout output) before after out out' x h writes e = merged_silently layout output before after out out' x h e
@@ -72,7 +73,7 @@ warned_as : (c : Command) (meaning : Meaning) (before after : Outside) (out out'
 warned_as (check input output options names) meaning before after out out' x is h e = check_warned meaning input output options names before after out out' x is h e
 warned_as (dump file) meaning before after out out' x is h e = absurd (dump_no_warnings file before after out out' x h.0 e)
 warned_as (unwind file image) meaning before after out out' x is h e = absurd (unwind_no_warnings file image before after out out' x h.0 e)
-warned_as (sites input output map names) meaning before after out out' x is h e = absurd (sites_no_warnings map input output names before after out out' x h e)
+warned_as (sites input output options map names) meaning before after out out' x is h e = absurd (sites_no_warnings (list_options options) map input output names before after out out' x h e)
 warned_as (list file) meaning before after out out' x is h e = absurd (list_no_warnings file before after out out' x h.0 e)
 warned_as (entry input rules map names) meaning before after out out' x is h e = of_entry input rules map names is (entry_warned map (entry_options rules) input names before after out out' x h.0 e)
 warned_as (cfi input output map names) meaning before after out out' x is h e = of_cfi input output map names is (cfi_warned map input output names before after out out' x h e)

@@ -10,6 +10,7 @@ use Rattle.command_base.proofs.Content.{written_others}
 use Rattle.command_base.proofs.Stops.{neither, write_told}
 use Rattle.objtool_cli.specs.Command.{ChangesOut, Ends, EndsAs, EndsCheck, MayChange, Stops, done, ended, faulty, refused, stopped, unfinished, unread, unwritten, warned, without_names}
 use Rattle.cli_words.specs.Grammar.{Command, cfa, cfi, check, demo, dump, entry, explain, find, help, list, merge, show, sites, unwind, version}
+use Rattle.code_commands.specs.SitesWords.{list_options}
 use Rattle.code_commands.proofs.SitesLaws.{sites_changes, sites_unchanged}
 use Rattle.objtool_cli.proofs.CfiLaws.{cfi_changes, cfi_unchanged}
 use Rattle.command_base.proofs.MergeLaws.{merge_changes, merge_unchanged}
@@ -31,7 +32,7 @@ kept_as : (c : Command) (before after : Outside) (out out' : Output) (x : Status
 kept_as (check input output options names) before after out out' x h d f m = check_keeps input output options names before after out out' x h d f m
 kept_as (dump file) before after out out' x h d f m = h.1
 kept_as (unwind file image) before after out out' x h d f m = h.1
-kept_as (sites input output map names) before after out out' x h d f m = sites_unchanged map input output names before after out out' x h d f m
+kept_as (sites input output options map names) before after out out' x h d f m = sites_unchanged (list_options options) map input output names before after out out' x h d f m
 kept_as (list file) before after out out' x h d f m = h.1
 kept_as (entry input rules map names) before after out out' x h d f m = h.1
 kept_as (cfi input output map names) before after out out' x h d f m = cfi_unchanged map input output names before after out out' x h d f m
@@ -75,7 +76,7 @@ changes_as : (c : Command) (before after : Outside) (out out' : Output) (x : Sta
 changes_as (check input output options names) before after out out' x h = check_changes input output options names before after out out' x h
 changes_as (dump file) before after out out' x h = inl h.1
 changes_as (unwind file image) before after out out' x h = inl h.1
-changes_as (sites input output map names) before after out out' x h = sites_changes map input output names before after out out' x h
+changes_as (sites input output options map names) before after out out' x h = sites_changes (list_options options) map input output names before after out out' x h
 changes_as (list file) before after out out' x h = inl h.1
 changes_as (entry input rules map names) before after out out' x h = inl h.1
 changes_as (cfi input output map names) before after out out' x h = cfi_changes map input output names before after out out' x h

@@ -21,6 +21,7 @@ use Rattle.code_commands.proofs.EntryLaws.{entry_fault, entry_sink_fault}
 use Rattle.command_base.proofs.UnwindLaws.{unwind_fault, unwind_sink_fault}
 use Rattle.command_base.proofs.DumpLaws.{dump_fault, dump_sink_fault}
 use Rattle.command_base.proofs.ListLaws.{list_fault, list_sink_fault}
+use Rattle.code_commands.specs.SitesWords.{list_options}
 use Rattle.code_commands.proofs.SitesLaws.{sites_fault, sites_sink_fault}
 use Rattle.command_base.proofs.CfaLaws.{cfa_fault, cfa_sink_fault}
 use Rattle.command_base.proofs.MergeLaws.{merge_file_fault, merge_sink_fault}
@@ -59,7 +60,7 @@ fault_as : (c : Command) (before after : Outside) (out out' : Output) (x : Statu
 fault_as (check input output options names) before after out out' x h e = fault_of_check input output options names before after out out' x h e
 fault_as (dump file) before after out out' x h e = dump_fault file before after out out' x h.0 e
 fault_as (unwind file image) before after out out' x h e = unwind_fault file image before after out out' x h.0 e
-fault_as (sites input output map names) before after out out' x h e = sites_fault map input output names before after out out' x h e
+fault_as (sites input output options map names) before after out out' x h e = sites_fault (list_options options) map input output names before after out out' x h e
 fault_as (list file) before after out out' x h e = list_fault file before after out out' x h.0 e
 fault_as (entry input rules map names) before after out out' x h e = entry_fault map (entry_options rules) input names before after out out' x h.0 e
 fault_as (cfi input output map names) before after out out' x h e = cfi_fault map input output names before after out out' x h e
@@ -86,7 +87,7 @@ sink_fault_as : (c : Command) (before after : Outside) (out out' : Output) (x : 
 sink_fault_as (check input output options names) before after out out' x h e = sink_fault_of_check input output options names before after out out' x h e
 sink_fault_as (dump file) before after out out' x h e = dump_sink_fault file before after out out' x h.0 e
 sink_fault_as (unwind file image) before after out out' x h e = unwind_sink_fault file image before after out out' x h.0 e
-sink_fault_as (sites input output map names) before after out out' x h e = sites_sink_fault map input output names before after out out' x h e
+sink_fault_as (sites input output options map names) before after out out' x h e = sites_sink_fault (list_options options) map input output names before after out out' x h e
 sink_fault_as (list file) before after out out' x h e = list_sink_fault file before after out out' x h.0 e
 sink_fault_as (entry input rules map names) before after out out' x h e = entry_sink_fault map (entry_options rules) input names before after out out' x h.0 e
 sink_fault_as (cfi input output map names) before after out out' x h e = cfi_sink_fault map input output names before after out out' x h e

@@ -35,6 +35,8 @@ use Rattle.site_lists.specs.Listed.{Listed}
 use Rattle.code_commands.specs.SitesOrder.{GetsSites}
 use Rattle.command_base.specs.List.{HoldsLists}
 use Rattle.command_base.proofs.ListLaws.{list_left}
+use Rattle.code_commands.specs.SitesWords.{list_options}
+use Rattle.cli_words.specs.declared.options.SiteOptions.{SiteOptions}
 use Rattle.code_commands.proofs.SitesLaws.{sites_left}
 use Rattle.eh_frame.specs.declared.rule.PlacedRule.{PlacedRule}
 use Rattle.command_base.specs.Cfa.{SaysRules}
@@ -81,9 +83,9 @@ unwind_answered meaning before after out out' x file image bytes text stack o ro
 
 -- ---- the other commands
 
-pub sites_answered : OneOutcome → (meaning : Meaning) (before after : Outside) (out out' : Output) (x : Status) (input output : List ℕ) (map : Map) (names : Option (List ℕ)) (read : List ℕ) (o : Elf) (lists : NameLists) (held : Content) → Ends meaning before after out out' x → meaning ≡ Ok (sites input output map names) → before.content ≡ Some held → reading held input MAX_FILE_BYTES ≡ Ok read → HasNames (Some held) names lists → IsObject read o → GetsSites (coded_by map o) → IsAnswered x
-sites_answered one meaning before after out out' x input output map names read o lists held ends n c is named of gets = elim (ends_as (sites input output map names) meaning before after out out' x ends n) [
-  | inl h ↦ sites_left one map input output names read o lists held before after out out' x c is named of gets h
+pub sites_answered : OneOutcome → (meaning : Meaning) (before after : Outside) (out out' : Output) (x : Status) (input output : List ℕ) (options : SiteOptions) (map : Map) (names : Option (List ℕ)) (read : List ℕ) (o : Elf) (lists : NameLists) (held : Content) → Ends meaning before after out out' x → meaning ≡ Ok (sites input output options map names) → before.content ≡ Some held → reading held input MAX_FILE_BYTES ≡ Ok read → HasNames (Some held) names lists → IsObject read o → GetsSites (list_options options) (coded_by map o) lists → IsAnswered x
+sites_answered one meaning before after out out' x input output options map names read o lists held ends n c is named of gets = elim (ends_as (sites input output options map names) meaning before after out out' x ends n) [
+  | inl h ↦ sites_left one (list_options options) map input output names read o lists held before after out out' x c is named of gets h
   | inr none ↦ no_memory_left out out' x none.1
 ]
 

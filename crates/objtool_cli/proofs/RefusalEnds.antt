@@ -29,6 +29,7 @@ use Rattle.code_commands.specs.EntryWords.{entry_options}
 use Rattle.objtool_cli.specs.Words.{Meaning}
 use Rattle.code_commands.proofs.EntryLaws.{entry_refused, entry_told}
 use Rattle.command_base.proofs.ListLaws.{list_refused, list_told}
+use Rattle.code_commands.specs.SitesWords.{list_options}
 use Rattle.code_commands.proofs.SitesLaws.{sites_refused, sites_told}
 use Rattle.command_base.proofs.CfaLaws.{cfa_refused, cfa_told}
 use Rattle.objtool_cli.proofs.CfiLaws.{cfi_refused, cfi_told}
@@ -98,7 +99,7 @@ told_as : (c : Command) (held : Content) (before after : Outside) (out out' : Ou
 told_as (check input output options names) held before after out out' x h e c = check_told input output options names held before after out out' x c h e
 told_as (dump file) held before after out out' x h e c = dump_told file held before after out out' x c h.0 e
 told_as (unwind file image) held before after out out' x h e c = unwind_told file image held before after out out' x c h.0 e
-told_as (sites input output map names) held before after out out' x h e c = sites_told map input output names held before after out out' x c h e
+told_as (sites input output options map names) held before after out out' x h e c = sites_told (list_options options) map input output names held before after out out' x c h e
 told_as (list file) held before after out out' x h e c = list_told file held before after out out' x c h.0 e
 told_as (entry input rules map names) held before after out out' x h e c = entry_told map (entry_options rules) input names held before after out out' x c h.0 e
 told_as (cfi input output map names) held before after out out' x h e c = cfi_told map input output names held before after out out' x c h e
@@ -186,7 +187,7 @@ refused_as : OneOutcome → (c : Command) (held : Content) (before after : Outsi
 refused_as one (check input output options names) held before after out out' x s h c why = check_refused one s input output options names held before after out out' x c why h
 refused_as one (dump file) held before after out out' x s h c why = dump_refused s file held before after out out' x c why h.0
 refused_as one (unwind file image) held before after out out' x s h c why = unwind_refused s file image held before after out out' x c why h.0
-refused_as one (sites input output map names) held before after out out' x s h c why = sites_refused one map input output names held before after out out' x s h c why
+refused_as one (sites input output options map names) held before after out out' x s h c why = sites_refused one (list_options options) map input output names held before after out out' x s h c why
 refused_as one (list file) held before after out out' x s h c why = list_refused file held before after out out' x s h.0 c why
 refused_as one (entry input rules map names) held before after out out' x s h c why = entry_refused one map (entry_options rules) input names held before after out out' x s h.0 c why
 refused_as one (cfi input output map names) held before after out out' x s h c why = cfi_refused one map input output names held before after out out' x s h c why

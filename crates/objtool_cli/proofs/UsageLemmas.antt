@@ -24,6 +24,7 @@ use Rattle.cli_words.specs.declared.options.CheckOptions.{CheckOptions}
 use Rattle.objtool_cli.specs.Words.{Meaning}
 use Rattle.cli_words.specs.Grammar.{Command, cfa, cfi, check, demo, dump, entry, explain, find, help, list, merge, show, sites, unwind, version}
 use Rattle.command_base.proofs.ListLaws.{list_no_usage}
+use Rattle.code_commands.specs.SitesWords.{list_options}
 use Rattle.code_commands.proofs.SitesLaws.{sites_no_usage}
 use Rattle.command_base.proofs.CfaLaws.{cfa_no_usage}
 use Rattle.code_commands.specs.EntryWords.{EntryOptions, entry_options}
@@ -171,7 +172,7 @@ used_as : (c : Command) (before after : Outside) (out out' : Output) (x : Status
 used_as (check input output options names) before after out out' x h e = check_ended input output options names before after out out' x h e
 used_as (dump file) before after out out' x h e = file_dumped file before after out out' x h.0 e
 used_as (unwind file image) before after out out' x h e = files_unwound file image before after out out' x h.0 e
-used_as (sites input output map names) before after out out' x h e = sites_no_usage map input output names before after out out' x h e
+used_as (sites input output options map names) before after out out' x h e = sites_no_usage (list_options options) map input output names before after out out' x h e
 used_as (list file) before after out out' x h e = list_no_usage file before after out out' x h.0 e
 used_as (entry input rules map names) before after out out' x h e = entry_no_usage map (entry_options rules) input names before after out out' x h.0 e
 used_as (cfi input output map names) before after out out' x h e = cfi_no_usage map input output names before after out out' x h e

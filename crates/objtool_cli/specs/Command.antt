@@ -32,6 +32,7 @@ use Rattle.code_commands.specs.EntryWords.{entry_options}
 use Rattle.objtool_cli.specs.Words.{Meaning, explained}
 use Rattle.command_base.specs.Writing.{StopsAtWrite}
 use Rattle.code_commands.specs.Sites.{EndsSites, SitesMayChange}
+use Rattle.code_commands.specs.SitesWords.{list_options}
 use Rattle.command_base.specs.List.{EndsList}
 use Rattle.code_commands.specs.Entry.{EndsEntry, PrintsEntryWarnings}
 use Rattle.objtool_cli.specs.Cfi.{CfiMayChange, EndsCfi, TellsWarnings}
@@ -111,7 +112,7 @@ abbrev pub EndsAs : Command → Outside → Outside → Output → Output → St
 EndsAs (check input output options names) before after out out' s = EndsCheck input output options names before after out out' s
 EndsAs (dump file) before after out out' s = EndsDump file before after out out' s × Kept before after
 EndsAs (unwind file image) before after out out' s = EndsUnwind file image before after out out' s × Kept before after
-EndsAs (sites input output map names) before after out out' s = EndsSites map input output names before after out out' s
+EndsAs (sites input output options map names) before after out out' s = EndsSites (list_options options) map input output names before after out out' s
 EndsAs (list file) before after out out' s = EndsList file before after out out' s × Kept before after
 EndsAs (entry input rules map names) before after out out' s = EndsEntry map (entry_options rules) input names before after out out' s × Kept before after
 EndsAs (cfi input output map names) before after out out' s = EndsCfi map input output names before after out out' s
@@ -152,7 +153,7 @@ EndsIn meaning before after s = Ends meaning before.files after.files before.out
 -- writes.
 abbrev pub ChangesOut : Command → Option Content → Option Content → Type 0
 ChangesOut (check input output options names) before after = (table : List ℕ) × (MayBeAccepted before input options names table × ChangesAtMost output before after)
-ChangesOut (sites input output map names) before after = SitesMayChange map input output names before after
+ChangesOut (sites input output options map names) before after = SitesMayChange (list_options options) map input output names before after
 ChangesOut (cfi input output map names) before after = CfiMayChange map input output names before after
 ChangesOut (merge layout output) before after = MayBeMerged layout before × ChangesAtMost output before after
 ChangesOut _ before after = ⊥

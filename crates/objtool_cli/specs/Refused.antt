@@ -16,6 +16,7 @@ use Rattle.command_base.specs.Unwind.{HasNoWalk}
 use Rattle.command_base.specs.Inputs.{RefusesInput}
 use Rattle.objtool_cli.specs.Checked.{IsRefusal, IsUncheckable}
 use Rattle.code_commands.specs.SitesRefused.{RefusesSites}
+use Rattle.code_commands.specs.SitesWords.{list_options}
 use Rattle.command_base.specs.ListRefused.{RefusesList}
 use Rattle.code_commands.specs.EntryRefused.{RefusesEntry}
 use Rattle.objtool_cli.specs.FramesRefused.{RefusesCfi}
@@ -67,7 +68,7 @@ abbrev pub RefusesAs : Command → Content → CommandStop → Type 0
 RefusesAs (check input output options names) held stop = RefusesCheck input options names held stop
 RefusesAs (dump file) held stop = RefusesDump file held stop
 RefusesAs (unwind file image) held stop = RefusesUnwind file image held stop
-RefusesAs (sites input output map names) held stop = RefusesSites map input names held stop
+RefusesAs (sites input output options map names) held stop = RefusesSites (list_options options) map input names held stop
 RefusesAs (list file) held stop = RefusesList file held stop
 RefusesAs (entry input rules map names) held stop = RefusesEntry map input names held stop
 RefusesAs (cfi input output map names) held stop = RefusesCfi map input names held stop

@@ -36,7 +36,7 @@ told_text _ = []
 -- the commands that print nothing where they are done: those that write a file, and `entry`
 abbrev pub is_silent : Command → Bool
 is_silent (check input output options names) = true
-is_silent (sites input output map names) = true
+is_silent (sites input output options map names) = true
 is_silent (entry input rules map names) = true
 is_silent (cfi input output map names) = true
 is_silent (merge layout output) = true

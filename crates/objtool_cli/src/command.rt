@@ -9,6 +9,8 @@ ghost use Rattle.flow_defs.specs.Coded.{coded_by};
 ghost use Rattle.x86_map.specs.declared.map.Map.{Map};
 ghost use Rattle.site_lists.specs.Listed.{Listed};
 ghost use Rattle.code_commands.specs.SitesOrder.{GetsSites};
+ghost use Rattle.code_commands.specs.SitesWords.{list_options as list_options_of};
+ghost use Rattle.cli_words.specs.declared.options.SiteOptions.{SiteOptions as SiteOptionsValue};
 ghost use Rattle.code_commands.specs.Sites.{OutListsSites};
 ghost use Rattle.command_base.specs.List.{HoldsLists, IsListed};
 ghost use Rattle.cli_words.specs.declared.options.EntryRules.{EntryRules as RulesValue};
@@ -58,7 +60,9 @@ use crate::frames_words::CfiAsked;
 use crate::words::Check;
 use cli_matches::{help_text, read_words, version_text};
 use cli_words::{Command, UsageFault};
-use code_commands::{EntryAsked, ShowAsked, SitesAsked, entry, entry_options, show, sites};
+use code_commands::{
+    EntryAsked, ShowAsked, SitesAsked, entry, entry_options, list_options, show, sites,
+};
 use command_base::{
     CommandStop, MAX_IMAGE_BYTES, Status, Usage, cfa, conclude, dump, find, list, merge,
     print_line, read_file, read_names, unwind,
@@ -164,12 +168,14 @@ fn run_command<F: Files, S: Sink>(
         Command::Sites {
             input,
             output,
+            options,
             map,
             names,
         } => {
             let asked = SitesAsked {
                 input: input.as_str(),
                 output: output.as_str(),
+                options: list_options(*options),
                 map: *map,
                 names: text_of(names),
             };
@@ -386,13 +392,13 @@ pub fn run<F: Files, S: Sink>(alloc: Global, words: &[String], files: &mut F, ou
     // Where `sites` is done and the files tell their content, OUT holds IN with exactly its site lists and the section
     // symbols that these need, and its site lists are exactly the sites of IN's code. An input that gets site lists
     // isn't refused.
-    ensures lists_sites { (input output : List ℕ) (opcodes : Map) (names : Option (List ℕ)) → result ≡ Status.Done
-        → meaning (map string_bytes words.now) ≡ Ok (sites input output opcodes names)
-        → OutListsSites opcodes input output (F.content files.old) (F.content files.new) }
-    ensures sites_accepts { (input output : List ℕ) (opcodes : Map) (names : Option (List ℕ)) (read : List ℕ) (object : Elf) (lists : NameLists) (held : Content)
-        → meaning (map string_bytes words.now) ≡ Ok (sites input output opcodes names)
+    ensures lists_sites { (input output : List ℕ) (options : SiteOptionsValue) (opcodes : Map) (names : Option (List ℕ)) → result ≡ Status.Done
+        → meaning (map string_bytes words.now) ≡ Ok (sites input output options opcodes names)
+        → OutListsSites (list_options_of options) opcodes input output (F.content files.old) (F.content files.new) }
+    ensures sites_accepts { (input output : List ℕ) (options : SiteOptionsValue) (opcodes : Map) (names : Option (List ℕ)) (read : List ℕ) (object : Elf) (lists : NameLists) (held : Content)
+        → meaning (map string_bytes words.now) ≡ Ok (sites input output options opcodes names)
         → F.content files.old ≡ Some held → reading held input MAX_FILE_BYTES ≡ Ok read → HasNames (Some held) names lists
-        → IsObject read object → GetsSites (coded_by opcodes object) → IsAnswered result }
+        → IsObject read object → GetsSites (list_options_of options) (coded_by opcodes object) lists → IsAnswered result }
 
     // Where `list` is done, FILE is read as an object that holds site lists, and exactly their lines were printed; and
     // such a FILE isn't refused.

@@ -15,9 +15,9 @@ use Rattle.orc_bytes.specs.declared.fault.SlotWhy.{SlotWhy}
 use Rattle.orc_bytes.specs.Faults.{StandsForText}
 use Rattle.orc_bytes.specs.Sections.{section_named}
 use Rattle.site_lists.specs.declared.fault.SitesFault.{SitesFault}
-use Rattle.site_lists.specs.Faults.{FirstFault, HasList, ListFault, ListParts, SlotFault, slot_count, no_section, bad_length, bad_slot, without_slots, no_reloc, more, kind, offset, symbol, range, not_zero}
+use Rattle.site_lists.specs.Faults.{FirstFault, HasList, ListFault, ListParts, SlotFault, slot_count, no_lists, in_list, bad_length, bad_slot, without_slots, no_reloc, more, kind, offset, symbol, range, not_zero}
 use Rattle.site_lists.specs.Listed.{Listed}
-use Rattle.site_lists.specs.Sections.{HoldsList, HoldsSites, IsSite, list_name, slot_reloc, slot_relocs, slot_section}
+use Rattle.site_lists.specs.Sections.{HasLists, HoldsList, HoldsSites, IsListOf, IsSite, held, missing, list_name, slot_reloc, slot_relocs, slot_section}
 use Rattle.site_lists.proofs.OneChoice.{one_section}
 
 some_alike : {A : Type 0} {x y : A} {o : Option A} → o ≡ Some x → o ≡ Some y → x ≡ y
@@ -138,7 +138,6 @@ list_excludes object which places fault first holds = go fault first
     no_relocs (place ∷ places) e = absurd (omega arith)
 
     go : (fault : SitesFault) → ListFault object which fault → ⊥
-    go _ (no_section none) = none-some _ (sym (ap (option_and_then (λ i. option_map (λ section. section.body) (slice_get object.sections i))) none) ∙ holds.slots)
     go _ (bad_length parts has other) = let long = slots_long parts has in other (omega arith)
     go _ (bad_slot parts i why has whole h lower at) =
         let long = slots_long parts has in
@@ -147,11 +146,27 @@ list_excludes object which places fault first holds = go fault first
         let long = slots_long parts has in
         left (relocs_are parts has ∙ no_relocs places (omega arith))
 
+-- a section that has a body is there
+unnamed : (object : Elf) (name : List ℕ) (parts : ListParts) → section_named object name ≡ None → HasList object name parts → ⊥
+unnamed object name parts none has = none-some _ (sym (ap (option_and_then (λ i. option_map (λ section. section.body) (slice_get object.sections i))) none) ∙ has.slots)
+
+-- nor has one that isn't there
+pub no_fault_of : (object : Elf) (which : ℕ) (places : List Place) (fault : SitesFault) → ListFault object which fault → IsListOf object (list_name which) places → ⊥
+no_fault_of object which places fault first (held holds) = list_excludes object which places fault first holds
+no_fault_of object which places _ (bad_length parts has other) (missing none empty) = unnamed object (list_name which) parts none has
+no_fault_of object which places _ (bad_slot parts i why has whole h lower at) (missing none empty) = unnamed object (list_name which) parts none has
+no_fault_of object which places _ (without_slots parts has none whole left) (missing missed empty) = unnamed object (list_name which) parts missed has
+
 pub fault_excludes : (object : Elf) (lists : Listed) (fault : SitesFault) → FirstFault object fault → HoldsSites object lists → ⊥
-fault_excludes object lists fault first holds = by_number first.which first.inside first.here
+fault_excludes object lists _ (no_lists none) holds = is_there (section_named object (list_name holds.some.which)) (none holds.some.which holds.some.inside) holds.some.there
+  where
+    is_there : (o : Option ℕ) → o ≡ None → IsSome o → ⊥
+    is_there (Some i) e there = none-some i (sym e)
+    is_there None e there = false≢true there
+fault_excludes object lists fault (in_list which inside before here) holds = by_number which inside here
   where
     by_number : (which : ℕ) → which < 3 → ListFault object which fault → ⊥
-    by_number zero inside here = list_excludes object 0 lists.retpoline fault here holds.retpoline
-    by_number (suc zero) inside here = list_excludes object 1 lists.returns fault here holds.returns
-    by_number (suc (suc zero)) inside here = list_excludes object 2 lists.calls fault here holds.calls
+    by_number zero inside here = no_fault_of object 0 lists.retpoline fault here holds.retpoline
+    by_number (suc zero) inside here = no_fault_of object 1 lists.returns fault here holds.returns
+    by_number (suc (suc zero)) inside here = no_fault_of object 2 lists.calls fault here holds.calls
     by_number (suc (suc (suc n))) inside here = absurd (omega arith)

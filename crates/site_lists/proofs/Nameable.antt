@@ -27,6 +27,7 @@ use Rattle.flow_defs.specs.Coded.{Coded}
 use Rattle.orc_output.proofs.Insertable.{text_kind}
 use Rattle.orc_output.proofs.NeededSections.{in_range}
 use Rattle.site_lists.specs.Listed.{Listed}
+use Rattle.site_lists.specs.declared.options.ListOptions.{ListOptions}
 use Rattle.site_lists.specs.Sites.{AreFew, AreSitesIn, IsSiteIn, PlacedCode, can_have_symbol, is_call_site, is_retpoline_site, is_return_site, nameable_code, placed_code, places_of, sites_of}
 
 -- Instructions begin below the end of their body, and are no more than it has bytes.
@@ -127,14 +128,14 @@ module _ (o : Coded) (ok : IsObject o.elf.bytes o.elf) where
   places_good : (passes : PlacedCode → Bool) (code : List PlacedCode) → All Good code → All (IsSiteIn o.elf) (places_of passes code)
   places_good passes code all = All-map (IsSiteIn o.elf) (λ (x : PlacedCode). x.place) (filter passes code) (All-filter passes Good code all)
 
-  pub sites_in : AreSitesIn o.elf (sites_of o)
+  pub sites_in : (m : ListOptions) → AreSitesIn o.elf (sites_of m o)
   unfolding sites_of
-  sites_in =
+  sites_in m =
       let all = all_good (texts_of o) (texts_are o) in
       record {
         retpoline = places_good (is_retpoline_site o) (nameable_code o) all;
         returns = places_good (is_return_site o) (nameable_code o) all;
-        calls = places_good (is_call_site o) (nameable_code o) all;
+        calls = places_good (is_call_site m o) (nameable_code o) all;
       }
 
 -- How many there are.
@@ -172,13 +173,13 @@ places_few passes code n h =
     let less = filter_shorter passes code in
     omega arith
 
-pub sites_few : (o : Coded) → sum_by (λ (t : SectionText). length t.text.bytes) (texts_of o) ≤ 16777216 → AreFew (sites_of o)
+pub sites_few : (m : ListOptions) (o : Coded) → sum_by (λ (t : SectionText). length t.text.bytes) (texts_of o) ≤ 16777216 → AreFew (sites_of m o)
 unfolding sites_of
-sites_few o little =
+sites_few m o little =
     let all = code_few o (texts_of o) in
     let few : length (nameable_code o) ≤ 16777216 = omega arith in
     record {
       retpoline = places_few (is_retpoline_site o) (nameable_code o) 16777216 few;
       returns = places_few (is_return_site o) (nameable_code o) 16777216 few;
-      calls = places_few (is_call_site o) (nameable_code o) 16777216 few;
+      calls = places_few (is_call_site m o) (nameable_code o) 16777216 few;
     }

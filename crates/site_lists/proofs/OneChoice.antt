@@ -1,18 +1,20 @@
 -- The site lists of an object tell their places.
 use Rattle.std.proofs.Common.{◌≡◌, ℕ, ◌+◌, ◌*◌, ◌<◌, false, List, [], ◌∷◌, map, length, Option, Some, None, ℤ, pos, refl, sym, ◌∙◌, ap, arith}
 use Rattle.std.proofs.lemmas.Bool.{false≢true}
-use Rattle.std.specs.Prelude.{All, IsSome, unwrap_or}
+use Rattle.std.specs.Prelude.{All, IsSome, option_and_then, option_map, slice_get, unwrap_or}
+use Rattle.std.proofs.lemmas.Option.{none-some}
 use Rattle.std.specs.List.{enumerate_from}
 use Rattle.std.proofs.lemmas.List.Elements.{All-head, All-tail}
 use Rattle.ot_base.specs.declared.place.Place.{Place}
 use Rattle.elf_objects.specs.declared.symbol.Home.TheVariants as home
 use Rattle.elf_objects.specs.declared.symbol.Reloc.{Reloc}
-use Rattle.elf_objects.specs.Elf.{Elf}
+use Rattle.elf_objects.specs.Elf.{Elf, SectionEntry}
+use Rattle.orc_bytes.specs.Sections.{body_named, section_named}
 use Rattle.elf_objects.specs.Contents.{section_symbol_of}
 use Rattle.orc_bytes.proofs.OneList.{symbol_home}
 use Rattle.site_lists.specs.Laws.{OneChoiceFits}
 use Rattle.site_lists.specs.Listed.{Listed}
-use Rattle.site_lists.specs.Sections.{HoldsList, IsSite, list_name, slot_reloc, slot_relocs}
+use Rattle.site_lists.specs.Sections.{HoldsList, IsListOf, IsSite, held, missing, list_name, slot_reloc, slot_relocs}
 
 -- a symbol stands for one section
 pub one_section : (object : Elf) (i j k : ℕ) → section_symbol_of object i ≡ Some k → section_symbol_of object j ≡ Some k → i ≡ j
@@ -79,12 +81,22 @@ unfolding relocs_from
 one_list object name one other first second =
     same_places object 0 one other first.each second.each (some_alike first.relocs second.relocs)
 
+-- where a section is missing it has no body
+missing_body : (object : Elf) (name places_body : List ℕ) → section_named object name ≡ None → body_named object name ≡ Some places_body → ⊥
+missing_body object name body none is = none-some body (sym (ap (option_and_then (λ i. option_map (λ (section : SectionEntry). section.body) (slice_get object.sections i))) none) ∙ is)
+
+one_list_of : (object : Elf) (name : List ℕ) (one other : List Place) → IsListOf object name one → IsListOf object name other → one ≡ other
+one_list_of object name one other (held first) (held second) = one_list object name one other first second
+one_list_of object name one other (held first) (missing none empty) = absurd (missing_body object name _ none first.slots)
+one_list_of object name one other (missing none empty) (held second) = absurd (missing_body object name _ none second.slots)
+one_list_of object name one other (missing none empty) (missing missed bare) = empty ∙ sym bare
+
 lists_alike : (a b c a' b' c' : List Place) → a ≡ a' → b ≡ b' → c ≡ c' → ◌≡◌ {A = Listed} (record { retpoline = a; returns = b; calls = c }) (record { retpoline = a'; returns = b'; calls = c' })
 lists_alike a b c a' b' c' h1 h2 h3 = cc
 
 pub one_choice_fits : OneChoiceFits
 one_choice_fits object one other first second =
     lists_alike one.retpoline one.returns one.calls other.retpoline other.returns other.calls
-    (one_list object (list_name 0) one.retpoline other.retpoline first.retpoline second.retpoline)
-    (one_list object (list_name 1) one.returns other.returns first.returns second.returns)
-    (one_list object (list_name 2) one.calls other.calls first.calls second.calls)
+    (one_list_of object (list_name 0) one.retpoline other.retpoline first.retpoline second.retpoline)
+    (one_list_of object (list_name 1) one.returns other.returns first.returns second.returns)
+    (one_list_of object (list_name 2) one.calls other.calls first.calls second.calls)

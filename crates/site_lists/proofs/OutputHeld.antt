@@ -1,6 +1,6 @@
 -- The site lists of the result are the lists that were added.
-use Rattle.std.proofs.Common.{◌≡◌, ◌≢◌, ℕ, ◌*◌, ◌^◌, ◌<◌, true, false, List, length, Some, refl, ap, ◌∙◌, arith}
-use Rattle.std.specs.Prelude.{All, bytes_eq, option_map, slice_get, ◌==◌}
+use Rattle.std.proofs.Common.{◌≡◌, ◌≢◌, ℕ, ◌*◌, ◌^◌, ◌<◌, true, false, List, length, Option, Some, None, refl, ap, ◌∙◌, arith}
+use Rattle.std.specs.Prelude.{All, IsSome, bytes_eq, option_map, slice_get, ◌==◌}
 use Rattle.std.specs.List.{position_or_len}
 use Rattle.std.proofs.lemmas.Bool.{eq-eqb, ne_eqb}
 use Rattle.std.proofs.lemmas.List.Elements.{All-weaker}
@@ -13,7 +13,7 @@ use Rattle.orc_bytes.specs.Sections.{section_named}
 use Rattle.orc_output.proofs.Extended.{body_new, found_new, news, relocs_new, stays}
 use Rattle.orc_output.proofs.Known.{Known}
 use Rattle.site_lists.specs.Listed.{Listed}
-use Rattle.site_lists.specs.Sections.{HoldsList, HoldsSites, IsSite, list_name, rela_section, slot_section}
+use Rattle.site_lists.specs.Sections.{HoldsList, HoldsSites, IsSite, held as is_held, list_name, rela_section, slot_section}
 use Rattle.site_lists.specs.SiteOutput.{CanHaveLists, IsOther, list_number, site_sections, with_lists_object}
 use Rattle.site_lists.proofs.OutputSlots.{relocs_back}
 
@@ -35,6 +35,13 @@ relocs-third o lists =
     let first : (list_number o 1 == list_number o 2) ≡ false = ne_eqb (list_number o 1) (list_number o 2) (λ e. omega arith) in
     let here : (list_number o 2 == list_number o 2) ≡ true = eq-eqb (list_number o 2) (list_number o 2) refl in
     rw (zeroth, first, here) refl
+
+none_named : (o : Elf) (lists : Listed) (which : ℕ) → CanHaveLists o lists → All (λ (s : SectionEntry). s.name ≢ list_name which) o.sections
+none_named o lists which can = All-weaker IsOther (λ s. s.name ≢ list_name which) (λ s h. h.list which) o.sections can.none
+
+there : (found : Option ℕ) (i : ℕ) → found ≡ Some i → IsSome found
+there (Some j) i e = refl
+there None i e = cc
 
 -- one of the lists
 held_list : (o : Elf) (lists : Listed) (which : ℕ) (places : List Place) → Known o → CanHaveLists o lists → which < 3
@@ -66,7 +73,8 @@ held o lists known can =
     let few1 : length lists.returns < 2 ^ 32 = (let f = can.few_places.returns in omega arith) in
     let few2 : length lists.calls < 2 ^ 32 = (let f = can.few_places.calls in omega arith) in
     record {
-      retpoline = held_list o lists 0 lists.retpoline known can (omega arith) can.each.retpoline few0 refl refl (relocs-first o lists);
-      returns = held_list o lists 1 lists.returns known can (omega arith) can.each.returns few1 refl refl (relocs-second o lists);
-      calls = held_list o lists 2 lists.calls known can (omega arith) can.each.calls few2 refl refl (relocs-third o lists);
+      some = record { which = 0; inside = omega arith; there = there (section_named (with_lists_object o lists) (list_name 0)) _ (found_new o (site_sections o lists) (list_name 0) 0 (none_named o lists 0 can) refl (omega arith)) };
+      retpoline = is_held (held_list o lists 0 lists.retpoline known can (omega arith) can.each.retpoline few0 refl refl (relocs-first o lists));
+      returns = is_held (held_list o lists 1 lists.returns known can (omega arith) can.each.returns few1 refl refl (relocs-second o lists));
+      calls = is_held (held_list o lists 2 lists.calls known can (omega arith) can.each.calls few2 refl refl (relocs-third o lists));
     }

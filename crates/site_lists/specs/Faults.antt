@@ -11,7 +11,7 @@ use Rattle.orc_bytes.specs.Faults.{StandsForText, TellsPlace}
 use Rattle.orc_bytes.specs.Sections.{body_named, relocs_named, section_named}
 use Rattle.site_lists.specs.declared.fault.SitesFault.{SitesFault}
 use Rattle.site_lists.specs.declared.fault.SitesFault.TheVariants.{NoSection, BadLength, BadSlot, NoMemory}
-use Rattle.site_lists.specs.Sections.{HoldsList, list_name}
+use Rattle.site_lists.specs.Sections.{IsListOf, list_name}
 
 -- what the section of a list says: its body, and the relocations of it
 pub record ListParts : Type 0 where
@@ -58,24 +58,21 @@ pub record IsSlot (object : Elf) (parts : ListParts) (i : ℕ) : Type 0 where
   pub place : Place
   pub told : HasPlace object parts i place
 
--- the first fault of the list with this number
+-- the first fault of the list with this number, which is there
 pub data ListFault (object : Elf) (which : ℕ) : SitesFault → Type 0 where
-  no_section : section_named object (list_name which) ≡ None → ListFault object which (NoSection which)
   bad_length : (parts : ListParts) → HasList object (list_name which) parts → length parts.slots % 4 ≢ 0 → ListFault object which (BadLength which (length parts.slots))
   bad_slot : (parts : ListParts) (i : ℕ) (why : SlotWhy) → HasList object (list_name which) parts → length parts.slots % 4 ≡ 0 → i < slot_count parts → ((k : ℕ) → k < i → IsSlot object parts k) → SlotFault object parts i why → ListFault object which (BadSlot which i why)
   without_slots : (parts : ListParts) → HasList object (list_name which) parts → slot_count parts ≡ 0 → length parts.slots % 4 ≡ 0 → parts.relocs ≢ [] → ListFault object which (BadSlot which 0 NoReloc)
 
--- the list with this number holds some places
-pub record HoldsSome (object : Elf) (which : ℕ) : Type 0 where
+-- the list with this number is one of some places
+pub record IsList (object : Elf) (which : ℕ) : Type 0 where
   pub places : List Place
-  pub held : HoldsList object (list_name which) places
+  pub list : IsListOf object (list_name which) places
 
--- the first fault: that of the first of the three lists that holds no places
-pub record FirstFault (object : Elf) (fault : SitesFault) : Type 0 where
-  pub which : ℕ
-  pub inside : which < 3
-  pub before : (k : ℕ) → k < which → HoldsSome object k
-  pub here : ListFault object which fault
+-- the first fault: that no list is there, or that of the first of the three lists that is none
+pub data FirstFault (object : Elf) : SitesFault → Type 0 where
+  no_lists : ((which : ℕ) → which < 3 → section_named object (list_name which) ≡ None) → FirstFault object (NoSection 0)
+  in_list : {fault : SitesFault} (which : ℕ) → which < 3 → ((k : ℕ) → k < which → IsList object k) → ListFault object which fault → FirstFault object fault
 
 -- why decoding refuses: the first fault, or want of memory
 abbrev pub Refuses : Elf → SitesFault → Type 0

@@ -1,5 +1,5 @@
 -- What the site lists of an object say (Linux 6.6, tools/objtool/check.c, `create_retpoline_sites_sections` and those beside it).
-use Rattle.std.specs.Prelude.{◌≡◌, ℕ, ◌*◌, ◌^◌, ◌<◌, ◌≤◌, ◌==◌, true, List, map, length, replicate, Option, Some, unwrap_or, flat_map, All, IsSome, slice_get, codes, pos, if◌then◌else◌}
+use Rattle.std.specs.Prelude.{◌≡◌, ℕ, ◌*◌, ◌^◌, ◌<◌, ◌≤◌, ◌==◌, true, List, [], map, length, replicate, Option, Some, None, unwrap_or, flat_map, All, IsSome, slice_get, codes, pos, if◌then◌else◌}
 use Rattle.std.specs.List.{enumerate_from}
 use Rattle.ot_base.specs.declared.place.Place.{Place}
 use Rattle.elf_objects.specs.declared.symbol.Reloc.{Reloc}
@@ -7,7 +7,7 @@ use Rattle.elf_objects.specs.Elf.{Elf, SectionEntry}
 use Rattle.elf_objects.specs.Contents.{is_text, section_symbol_of}
 use Rattle.elf_objects.specs.declared.TheConstants.{R_X86_64_PC32}
 use Rattle.orc_bytes.specs.RelocBytes.{bytes_of_reloc}
-use Rattle.orc_bytes.specs.Sections.{body_named, relocs_named}
+use Rattle.orc_bytes.specs.Sections.{body_named, relocs_named, section_named}
 use Rattle.site_lists.specs.Listed.{Listed}
 
 -- the names of the three sections, by their number
@@ -54,11 +54,23 @@ pub record HoldsList (object : Elf) (name : List ℕ) (places : List Place) : Ty
   pub relocs : relocs_named object name ≡ Some (slot_relocs (section_symbol_of object) places)
   pub each : All (IsSite object) places
 
--- The three lists of the object are these, and nothing else.
+-- It does, or there is no such section and the list is empty.
+pub data IsListOf (object : Elf) (name : List ℕ) (places : List Place) : Type 0 where
+  held : HoldsList object name places → IsListOf object name places
+  missing : section_named object name ≡ None → places ≡ [] → IsListOf object name places
+
+-- one of the three lists is there
+pub record HasLists (object : Elf) : Type 0 where
+  pub which : ℕ
+  pub inside : which < 3
+  pub there : IsSome (section_named object (list_name which))
+
+-- The three lists of the object are these, and nothing else; not all of them are missing.
 pub record HoldsSites (object : Elf) (lists : Listed) : Type 0 where
-  pub retpoline : HoldsList object (list_name 0) lists.retpoline
-  pub returns : HoldsList object (list_name 1) lists.returns
-  pub calls : HoldsList object (list_name 2) lists.calls
+  pub some : HasLists object
+  pub retpoline : IsListOf object (list_name 0) lists.retpoline
+  pub returns : IsListOf object (list_name 1) lists.returns
+  pub calls : IsListOf object (list_name 2) lists.calls
 
 -- each place of the lists is one that a list can hold
 pub record AreSites (object : Elf) (lists : Listed) : Type 0 where

@@ -10,7 +10,7 @@ use std::alloc::{AllocError, AllocFailed};
 /// `.retpoline_sites` (`which` is 0), `.return_sites` (1) and `.call_sites` (2).
 #[derive(Clone, Copy, Debug, PartialEq, Eq)]
 pub enum SitesFault {
-    /// There is no such section.
+    /// There is no such section, nor one of another list. Told of list 0.
     NoSection { which: u8 },
     /// Its body has no multiple of four bytes: how many it has.
     BadLength { which: u8, len: u64 },

@@ -1,6 +1,6 @@
 //! The places that the site lists of an object hold.
 
-ghost use Rattle.std.specs.Prelude.{◌≡◌, ◌↔◌, pos, ◌<◌, ◌≤◌, ◌*◌, ◌+◌, ◌/◌, ◌%◌, ◌^◌, ℕ, [], List, length, IfOk, IfErr, IfNone, IfSome, IsTrue, false, IsOkUnless};
+ghost use Rattle.std.specs.Prelude.{◌≡◌, ◌↔◌, pos, ◌<◌, ◌≤◌, ◌*◌, ◌+◌, ◌/◌, ◌%◌, ◌^◌, ℕ, [], List, length, IfOk, IfErr, IfNone, IfSome, IsTrue, Some, None, false, true, is_some, IsOkUnless};
 ghost use Rattle.ot_base.specs.declared.place.Place.{Place};
 ghost use Rattle.elf_objects.specs.Elf.{SectionEntry};
 ghost use Rattle.elf_objects.specs.Contents.{section_at};
@@ -10,7 +10,7 @@ ghost use Rattle.orc_bytes.specs.Sections.{section_named};
 ghost use Rattle.site_lists.specs.Faults.{slot_count, HasList, HasPlace, IsAtSlot, ListFault, Refuses, RefusesList, SlotFault};
 ghost use Rattle.site_lists.specs.Listed.{Listed, listed};
 ghost use Rattle.site_lists.specs.Parts.{parts_of};
-ghost use Rattle.site_lists.specs.Sections.{HoldsList, HoldsSites, list_name as list_name_of};
+ghost use Rattle.site_lists.specs.Sections.{HasLists, HoldsList, HoldsSites, IsListOf, list_name as list_name_of};
 
 use crate::fault::SitesFault;
 use crate::fault_text::list_name;
@@ -44,17 +44,17 @@ fn section_named(object: &Object<'_>, name: &[u8]) -> Option<u32>
     None
 }
 
-/// The section of the list with this number, whose body has whole slots, or what is wrong with it.
-fn find_slots<'a>(object: &Object<'a>, which: u8) -> Result<Slots<'a>, SitesFault>
+/// The section with this number as that of a list, whose body has whole slots, or what is wrong with it.
+fn slots_of<'a>(object: &Object<'a>, which: u8, section: u32) -> Result<Slots<'a>, SitesFault>
+    requires named { section_named object.now (list_name_of which) ≡ Some section }
+    requires known { section < length object.now.sections }
+    requires related { section < length object.now.relocs }
     ensures ok { IfOk result (λ s. HasList object.now (list_name_of which) (parts_of object.now s)) }
     ensures whole { IfOk result (λ s. length s.body.now % 4 ≡ 0) }
     ensures known { IfOk result (λ s. s.section < length object.now.sections) }
     ensures short { IfOk result (λ s. length s.body.now < 2 ^ 32) }
     ensures err { IfErr result (ListFault object.now which) }
 {
-    let Some(section) = section_named(object, list_name(which).as_bytes()) else {
-        return Err(SitesFault::NoSection { which });
-    };
     let body = object.section(section).body;
     if body.len() % 4 != 0 {
         return Err(SitesFault::BadLength {
@@ -204,31 +204,73 @@ fn read_places(
     Ok(places)
 }
 
-/// The places of the list with this number.
-fn decode_list(alloc: Global, object: &Object<'_>, which: u8) -> Result<Vec<Place>, SitesFault>
+/// The places of the list with this number, which stands in a section.
+fn decode_section(
+    alloc: Global,
+    object: &Object<'_>,
+    which: u8,
+    section: u32,
+) -> Result<Vec<Place>, SitesFault>
+    requires named { section_named object.now (list_name_of which) ≡ Some section }
+    requires known { section < length object.now.sections }
+    requires related { section < length object.now.relocs }
     ensures ok { IfOk result (λ places. HoldsList object.now (list_name_of which) places.items) }
     ensures err { IfErr result (RefusesList object.now which) }
-    ensures only { (places : List Place)
-        → HoldsList object.now (list_name_of which) places → IsOkUnless result SitesFault.NoMemory }
 {
-    let slots = find_slots(object, which)?;
+    let slots = slots_of(object, which, section)?;
     let count = (slots.body.len() / 4) as u32;
     read_places(alloc, object, &slots, which, count)
 }
 
+/// The places of the list with this number: none where it isn't there.
+fn decode_list(alloc: Global, object: &Object<'_>, which: u8) -> Result<Vec<Place>, SitesFault>
+    ensures ok { IfOk result (λ places. IsListOf object.now (list_name_of which) places.items) }
+    ensures err { IfErr result (RefusesList object.now which) }
+    ensures only { (places : List Place)
+        → IsListOf object.now (list_name_of which) places → IsOkUnless result SitesFault.NoMemory }
+{
+    match section_named(object, list_name(which).as_bytes()) {
+        Some(section) => decode_section(alloc, object, which, section),
+        None => Ok(Vec::new(alloc)),
+    }
+}
+
+/// Whether the list with this number is there.
+fn has_list(object: &Object<'_>, which: u8) -> bool
+    ensures { result ≡ is_some (section_named object.now (list_name_of which)) }
+{
+    section_named(object, list_name(which).as_bytes()).is_some()
+}
+
+/// Whether one of the lists is there.
+fn has_lists(object: &Object<'_>) -> bool
+    ensures some { result ≡ true → HasLists object.now }
+    ensures none { result ≡ false → (which : ℕ) → which < 3 → section_named object.now (list_name_of which) ≡ None }
+{
+    for which in 0..3 {
+        if has_list(object, which) {
+            return true;
+        }
+    }
+    false
+}
+
 /// The places that the site lists of an object hold, each list in its order. Of several sections with one name the first is
-/// read.
+/// read, and a list without a section is empty.
 ///
 /// # Errors
 ///
-/// Where the sections are those of no lists, the first fault, list by list in the order in which [`SitesFault`] names them;
-/// those of slots are looked for slot by slot. [`SitesFault::NoMemory`] may come at any object.
+/// Where no list is there, or the sections are those of no lists, the first fault, list by list in the order in which
+/// [`SitesFault`] names them; those of slots are looked for slot by slot. [`SitesFault::NoMemory`] may come at any object.
 pub fn decode(alloc: Global, object: &Object<'_>) -> Result<SiteLists, SitesFault>
     ensures ok { IfOk result (λ lists. HoldsSites object.now (listed lists)) }
     ensures err { IfErr result (Refuses object.now) }
     ensures only { (lists : Listed)
         → HoldsSites object.now lists → IsOkUnless result SitesFault.NoMemory }
 {
+    if !has_lists(object) {
+        return Err(SitesFault::NoSection { which: 0 });
+    }
     let retpoline = decode_list(alloc, object, 0)?;
     let returns = decode_list(alloc, object, 1)?;
     let calls = decode_list(alloc, object, 2)?;

@@ -11,7 +11,7 @@ returns-in-Err-clause-ends g c = stopped c.in-Err.stop (unread c.in-Err.ensures.
 
 pub returns-in-Ok-read_names-clause-ends : goal.returns-in-Ok-read_names-clause-ends
 returns-in-Ok-read_names-clause-ends g c =
-    ends_later _ _ _ _ _ _ _ _ _ _ _ _ (c.read_names.ensures.unchanged ∙ c.read_file.ensures.unchanged) (later_still _ _ _ c.read_file.ensures.later c.read_names.ensures.later) c.add_sites.ensures.ends
+    ends_later _ _ _ _ _ _ _ _ _ _ _ _ _ (c.read_names.ensures.unchanged ∙ c.read_file.ensures.unchanged) (later_still _ _ _ c.read_file.ensures.later c.read_names.ensures.later) c.add_sites.ensures.ends
 
 pub returns-clause-ends : goal.returns-clause-ends
 returns-clause-ends g c =

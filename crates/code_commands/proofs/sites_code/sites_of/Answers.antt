@@ -10,7 +10,7 @@ use Rattle.code_commands.proofs.sites_code.sites_of.Goals as goal
 
 pub returns-clause-are : goal.returns-clause-are
 returns-clause-are c =
-    subst (λ (x : Coded). IfOk c.sites_of_linked.result (λ lists. listed lists ≡ sites_of_code x)) c.in_ok-linked.ensures.ok c.sites_of_linked.ensures.are
+    subst (λ (x : Coded). IfOk c.sites_of_linked.result (λ lists. listed lists ≡ sites_of_code c.args.options x)) c.in_ok-linked.ensures.ok c.sites_of_linked.ensures.are
 
 pub returns-clause-placed : goal.returns-clause-placed
 returns-clause-placed c =
@@ -23,5 +23,5 @@ returns-clause-right c =
 pub returns-clause-stopped : goal.returns-clause-stopped
 returns-clause-stopped c bytes is =
     let same = c.in_ok-linked.ensures.ok in
-    subst (λ (x : Coded). IfErr c.sites_of_linked.result (GetNoSites x.map bytes c.args.names.now)) same
+    subst (λ (x : Coded). IfErr c.sites_of_linked.result (GetNoSites c.args.options x.map bytes c.args.names.now)) same
     (c.sites_of_linked.ensures.stopped bytes (subst (λ (x : Coded). IsObject bytes x.elf) (sym same) is))

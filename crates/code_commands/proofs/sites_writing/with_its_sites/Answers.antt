@@ -11,14 +11,14 @@ use Rattle.code_commands.proofs.sites_writing.with_its_sites.Goals as goal
 
 pub returns-in-Ok-clause-lists : goal.returns-in-Ok-clause-lists
 returns-in-Ok-clause-lists c =
-    lists_sites c.lists_are_determined.ensures (coded_by c.args.map c.args.object.now) (listed c.in_ok-lists.lists) c.in-Ok.file.items c.in_ok-lists.ensures.are c.in-Ok.ensures.sites
+    lists_sites c.lists_are_determined.ensures c.args.options (coded_by c.args.map c.args.object.now) (listed c.in_ok-lists.lists) c.in-Ok.file.items c.in_ok-lists.ensures.are c.in-Ok.ensures.sites
 
 pub returns-in-Err-TooManySymbols-clause-stopped : goal.returns-in-Err-TooManySymbols-clause-stopped
 returns-in-Err-TooManySymbols-clause-stopped c bytes is =
     let o : Elf = c.args.object.now in
     let lists : Listed = listed c.in_ok-lists.lists in
     let room = c.in_ok-check_room.ensures in
-    let same : symbols_needed o lists ≡ symbols_needed o (sites_of (coded_by c.args.map o)) = ap (symbols_needed o) c.in_ok-lists.ensures.are in
+    let same : symbols_needed o lists ≡ symbols_needed o (sites_of c.args.options (coded_by c.args.map o)) = ap (symbols_needed o) c.in_ok-lists.ensures.are in
     let told = rw c.in-Err-TooManySymbols.field-0-is at c.in-Err-TooManySymbols.ensures.err in
     too_many_symbols o is c.in_ok-lists.ensures.right room.new room.few (subst (λ (n : ℕ). MAX_SYMBOLS < n) same told.0) (told.1 ∙ same)
 

@@ -8,6 +8,7 @@ use Rattle.cli_words.specs.Grammar.{cfa, cfi, entry, find, list, merge, show, si
 use Rattle.code_commands.specs.EntryWords.{entry_options}
 use Rattle.code_commands.proofs.EntryLaws.{entry_keeps}
 use Rattle.command_base.proofs.ListLaws.{listed_file}
+use Rattle.code_commands.specs.SitesWords.{list_options}
 use Rattle.code_commands.proofs.SitesLaws.{sites_listed}
 use Rattle.command_base.proofs.CfaLaws.{file_told}
 use Rattle.objtool_cli.proofs.CfiLaws.{frames_told}
@@ -82,10 +83,10 @@ pub returns-clause-refuses : goal.returns-clause-refuses
 returns-clause-refuses g c held stop told why = refusal_answered c.one_outcome.ensures _ held _ _ _ _ _ stop c.dispatch.ensures.ends told why
 
 pub returns-clause-lists_sites : goal.returns-clause-lists_sites
-returns-clause-lists_sites g c input output map names e n = sites_listed map input output names _ _ _ _ _ (done_as (sites input output map names) _ _ _ _ _ _ c.dispatch.ensures.ends e n) e
+returns-clause-lists_sites g c input output options map names e n = sites_listed (list_options options) map input output names _ _ _ _ _ (done_as (sites input output options map names) _ _ _ _ _ _ c.dispatch.ensures.ends e n) e
 
 pub returns-clause-sites_accepts : goal.returns-clause-sites_accepts
-returns-clause-sites_accepts g c input output map names read object lists held n told is named obj gets = sites_answered c.one_outcome.ensures _ _ _ _ _ _ input output map names read object lists held c.dispatch.ensures.ends n told is named obj gets
+returns-clause-sites_accepts g c input output options map names read object lists held n told is named obj gets = sites_answered c.one_outcome.ensures _ _ _ _ _ _ input output options map names read object lists held c.dispatch.ensures.ends n told is named obj gets
 
 pub returns-clause-listed : goal.returns-clause-listed
 returns-clause-listed g c file e n = listed_file file _ _ _ _ _ (done_as (list file) _ _ _ _ _ _ c.dispatch.ensures.ends e n).0 e

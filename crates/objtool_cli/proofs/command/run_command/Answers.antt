@@ -2,7 +2,10 @@ use Rattle.std.proofs.Common.{◌≡◌, ℕ, List, Option, refl, sym, ap, ◌�
 use Rattle.x86_map.specs.declared.map.Map.{Map}
 use Rattle.cli_words.specs.Grammar.{cfa, cfi, command_in, dump, entry, explain, find, help, list, merge, show, sites, unwind, version}
 use Rattle.cli_words.specs.declared.options.EntryRules.{EntryRules}
+use Rattle.cli_words.specs.declared.options.SiteOptions.{SiteOptions}
 use Rattle.code_commands.specs.EntryWords.{EntryOptions}
+use Rattle.code_commands.specs.Sites.{EndsSites}
+use Rattle.code_commands.specs.SitesWords.{ListOptions}
 use Rattle.code_commands.specs.Entry.{EndsEntry}
 use Rattle.command_base.specs.declared.status.Status.{Status}
 use Rattle.command_base.specs.Outside.{Outside, Output}
@@ -22,8 +25,8 @@ unwind_is file other image others a b = cc
 merge_is : (layout other output others : List ℕ) → layout ≡ other → output ≡ others → merge layout output ≡ merge other others
 merge_is layout other output others a b = cc
 
-sites_is : (i j o p : List ℕ) (map : Map) (names others : Option (List ℕ)) → i ≡ j → o ≡ p → names ≡ others → sites i o map names ≡ sites j p map others
-sites_is i j o p map names others a b c = cc
+sites_is : (i j o p : List ℕ) (options : SiteOptions) (map : Map) (names others : Option (List ℕ)) → i ≡ j → o ≡ p → names ≡ others → sites i o options map names ≡ sites j p options map others
+sites_is i j o p options map names others a b c = cc
 
 cfi_is : (i j o p : List ℕ) (map : Map) (names others : Option (List ℕ)) → i ≡ j → o ≡ p → names ≡ others → cfi i o map names ≡ cfi j p map others
 cfi_is i j o p map names others a b c = cc
@@ -31,8 +34,11 @@ cfi_is i j o p map names others a b c = cc
 pub returns-in-Unwind-clause-ends : goal.returns-in-Unwind-clause-ends
 returns-in-Unwind-clause-ends g c = ends_of _ _ _ _ _ _ _ (unwind_is _ _ _ _ c.as_str-in-Unwind.ensures.value c.as_str-in-Unwind-2.ensures.value ∙ ap command_in (sym c.in-Unwind.is)) (c.unwind.ensures.ends, c.unwind.ensures.unchanged)
 
+sites_by : (one other : ListOptions) (map : Map) (input output : List ℕ) (names : Option (List ℕ)) (before after : Outside) (out out' : Output) (x : Status) → one ≡ other → EndsSites one map input output names before after out out' x → EndsSites other map input output names before after out out' x
+sites_by one other map input output names before after out out' x same h = subst (λ (options : ListOptions). EndsSites options map input output names before after out out' x) same h
+
 pub returns-in-Sites-clause-ends : goal.returns-in-Sites-clause-ends
-returns-in-Sites-clause-ends g c = ends_of _ _ _ _ _ _ _ (sites_is _ _ _ _ _ _ _ c.as_str-in-Sites.ensures.value c.as_str-in-Sites-2.ensures.value c.text_of-in-Sites.ensures ∙ ap command_in (sym c.in-Sites.is)) c.sites.ensures.ends
+returns-in-Sites-clause-ends g c = ends_of _ _ _ _ _ _ _ (sites_is _ _ _ _ _ _ _ _ c.as_str-in-Sites.ensures.value c.as_str-in-Sites-2.ensures.value c.text_of-in-Sites.ensures ∙ ap command_in (sym c.in-Sites.is)) (sites_by _ _ _ _ _ _ _ _ _ _ _ c.list_options.ensures c.sites.ensures.ends)
 
 pub returns-in-List-clause-ends : goal.returns-in-List-clause-ends
 returns-in-List-clause-ends g c = ends_of _ _ _ _ _ _ _ (ap list c.as_str-in-List.ensures.value ∙ ap command_in (sym c.in-List.is)) (c.list.ensures.ends, c.list.ensures.unchanged)

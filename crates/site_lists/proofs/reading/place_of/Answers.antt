@@ -1,4 +1,4 @@
-use Rattle.std.proofs.Common.{rules, ◌≡◌, ℕ, ◌<◌, ◌≤◌, ap, subst, sym, ◌∙◌, w64, FitsSigned}
+use Rattle.std.proofs.Common.{rules, ℕ, ◌<◌, ◌≤◌, ap, subst, sym, ◌∙◌, w64, FitsSigned}
 use Rattle.std.proofs.Math.Facts.{to_z-of_z}
 use Rattle.std.proofs.lemmas.Bool.{false≢true}
 use Rattle.elf_objects.specs.Elf.{SectionEntry}

@@ -1,5 +1,5 @@
-use Rattle.std.proofs.Common.{◌≡◌, ℕ, ◌+◌, ◌<◌, List, inr, sym, ap, subst, length, arith}
-use Rattle.site_lists.specs.Faults.{bad_slot, without_slots, slot_count}
+use Rattle.std.proofs.Common.{ℕ, ◌+◌, inr, sym, ap, subst, length, arith}
+use Rattle.site_lists.specs.Faults.{bad_slot, without_slots}
 use Rattle.site_lists.specs.Parts.{parts_of}
 use Rattle.site_lists.specs.Sections.{list_name}
 use Rattle.site_lists.proofs.Decoding.{AreRead, all_read, next_read}

@@ -1,4 +1,4 @@
-use Rattle.std.proofs.Common.{◌≡◌, ◌<◌, ℕ, sym, length, arith}
+use Rattle.std.proofs.Common.{◌≡◌, ◌<◌, sym, length, arith}
 use Rattle.orc_bytes.proofs.Named.{named_at, named_nowhere, relocs_for_each}
 use Rattle.site_lists.proofs.reading.section_named.Goals as goal
 

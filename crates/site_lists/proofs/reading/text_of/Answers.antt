@@ -1,7 +1,6 @@
-use Rattle.std.proofs.Common.{◌≡◌, ℕ, subst, ◌<◌, ◌∙◌, sym, ap, arith}
-use Rattle.elf_objects.specs.declared.symbol.Home.{Home}
+use Rattle.std.proofs.Common.{◌≡◌, ℕ, subst, ◌∙◌, sym, ap, arith}
 use Rattle.elf_objects.specs.declared.symbol.Home.TheVariants as home
-use Rattle.elf_objects.specs.Elf.{SymbolEntry, SectionEntry}
+use Rattle.elf_objects.specs.Elf.{SymbolEntry}
 use Rattle.orc_bytes.specs.Faults.{StandsForText}
 use Rattle.orc_bytes.proofs.OneList.{symbol_below, symbol_home}
 use Rattle.site_lists.proofs.reading.text_of.Goals as goal
