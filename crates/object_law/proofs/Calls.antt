@@ -1,5 +1,5 @@
 -- Calls: their roles, and what follows them; and that entries are checked.
-use Rattle.std.proofs.Common.{◌≡◌, ℕ, true, false, not, ◌&&◌, cond, List, [], ◌∷◌, ◌++◌, Option, Some, None, Contains, refl, sym, ap, ◌∙◌, subst}
+use Rattle.std.proofs.Common.{◌≡◌, ℕ, Bool, true, false, not, ◌&&◌, cond, List, [], ◌∷◌, ◌++◌, Option, Some, None, Contains, refl, sym, ap, ◌∙◌, subst}
 use Rattle.std.proofs.lemmas.Bool.{and_from, false≢true, not_from_false, or_right}
 use Rattle.std.proofs.lemmas.List.Elements.{Contains-append_left}
 use Rattle.ot_base.specs.declared.place.Place.{Place}
@@ -15,17 +15,22 @@ use Rattle.flow_defs.specs.declared.destination.Destination.{Destination}
 use Rattle.flow_defs.specs.declared.destination.Destination.TheVariants.{ToPlace, ToOwnPoint, ToOutside, ToIndirectThunk, ToReturnThunk, ToNowhere}
 use Rattle.flow_defs.specs.declared.destination.Way.{Way}
 use Rattle.flow_defs.specs.declared.destination.Way.TheVariants as ways
-use Rattle.flow_defs.specs.Code.{is_plain, point_at, points_of_object}
-use Rattle.flow_defs.specs.Owners.{is_entry, is_unchecked, is_unchecked_point}
-use Rattle.flow_defs.specs.Arrival.{after, insn_of_object, is_dead_end}
+use Rattle.flow_defs.specs.Code.{alternatives_of, is_plain, point_at, points_of_object}
+use Rattle.flow_defs.specs.Owners.{is_entry, is_unchecked, is_unchecked_point, owner_of_point}
+use Rattle.symbols_relocs.specs.Parts.{owner_at}
+use Rattle.alternatives.specs.Points.{address_of_point}
+use Rattle.flow_defs.specs.Arrival.{after, around, decoded_insn, insn_of_object, is_dead_end}
 use Rattle.flow_defs.specs.Targets.{destination_of}
 use Rattle.flow_defs.specs.Ways.{jump_way}
-use Rattle.flow_defs.specs.Roles.{jump_by_table, jump_by_way, jump_role, role_by, role_of, table_of_point}
+use Rattle.flow_defs.specs.Roles.{jump_by_table, jump_by_way, jump_role, returns_through, role_by, role_of, role_through, table_of_point}
+use Rattle.flow_defs.specs.Switching.{insn_by, loads_stack_of}
+use Rattle.operation_defs.specs.Made.{Around, made}
 use Rattle.flow_defs.specs.Edges.{branch_edges, edges_to, ends_flow, fixups, goes, goes_on, is_some_place, listed_edges, next_edges, static_targets, table_edges}
 use Rattle.flow_defs.specs.Program.{entries_of, graph_of, is_entry_point, program_of, returning_graph}
 use Rattle.object_law.proofs.Levels.{and_true}
 use Rattle.object_law.proofs.Numbers.{numbers_are}
 use Rattle.object_law.proofs.Owners.{arriving_owner, entry_is}
+use Rattle.object_law.proofs.Overlays.{address_plain}
 
 -- no jump is a call
 jump_is_none : (w : Way) (weak : Option ℕ) → is_call (jump_by_way w weak) ≡ false
@@ -55,6 +60,24 @@ call_by_op o point (ops.Jcc rel wide) e = absurd (false≢true (sym (role_is_non
 call_by_op o point (ops.JmpInd field) e = absurd (false≢true (sym (table_is_none (table_of_point o point)) ∙ e))
 call_by_op o point _ e = absurd (false≢true e)
 
+-- so is what the program has in its place
+calls_as_made : (around : Around) (loads : Bool) (op : Op) → is_call_op (made around op) ≡ true → is_call_op (made (record around { loads_stack = loads }) op) ≡ true
+calls_as_made around loads ops.SpOther e = absurd (false≢true (sym (no_call around.loads_stack) ∙ e))
+  where
+    no_call : (b : Bool) → is_call_op (cond b ops.BpOther ops.SpOther) ≡ false
+    no_call true = refl
+    no_call false = refl
+calls_as_made around loads _ e = e
+
+-- code that returns for its caller is no callee
+call_role_op : (o : Coded) (point : Point) → is_call (role_of o point) ≡ true → is_call_op (insn_of_object o point).op ≡ true
+unfolding role_of
+call_role_op o point e = go (returns_through o point) e
+  where
+    go : (through : Option ℕ) → is_call (role_through o point through) ≡ true → is_call_op (insn_of_object o point).op ≡ true
+    go (Some sym) e = absurd (false≢true e)
+    go None e = call_by_op o point (insn_of_object o point).op e
+
 -- execution goes on behind calls
 call_goes_on : (op : Op) → is_call_op op ≡ true → ends_flow op ≡ false
 call_goes_on (ops.Call rel) e = refl
@@ -77,16 +100,17 @@ next_goes o point r checked on c =
 module _ (o : Coded) (lists : NameLists) where
   -- the role of a call is that of a call instruction
   pub calls : (q : ℕ) → IsPoint (program_of o lists) q → is_call ((program_of o lists).role q) ≡ true → is_call_op ((program_of o lists).insn q).op ≡ true
-  unfolding program_of returning_graph graph_of role_of
-  calls q here e = call_by_op o (point_at o q) (insn_of_object o (point_at o q)).op e
+  unfolding program_of returning_graph graph_of insn_by insn_of_object
+  calls q here e =
+      let point = point_at o q in
+      calls_as_made (around o point) (loads_stack_of o lists point) (decoded_insn o point).op (call_role_op o point e)
 
   -- the points that follow a call which execution passes are its next points
   pub call_next : (q r : ℕ) → IsPoint (program_of o lists) q → (program_of o lists).unchecked q ≡ false → is_call ((program_of o lists).role q) ≡ true → (program_of o lists).dead_end q ≡ false → Contains ((program_of o lists).after q) r → Contains ((program_of o lists).goes q) (edge r Next)
-  unfolding program_of returning_graph graph_of role_of
+  unfolding program_of returning_graph graph_of
   call_next q r here checked call alive c =
       let point = point_at o q in
-      let op = (insn_of_object o point).op in
-      next_goes o point r checked (passes_on o point (call_goes_on op (call_by_op o point op call)) alive) c
+      next_goes o point r checked (passes_on o point (call_goes_on (insn_of_object o point).op (call_role_op o point call)) alive) c
 
   -- no entry is in an unchecked function
   pub entries_checked : (entry q : ℕ) → Contains (program_of o lists).entries entry → Contains (entry_points (program_of o lists) entry) q → (program_of o lists).unchecked q ≡ false
@@ -95,3 +119,12 @@ module _ (o : Coded) (lists : NameLists) where
       let point = point_at o entry in
       let own = from_filter (is_entry_point o) (points_of_object o) point (numbers_are o _ entry listed).1 in
       ap (is_unchecked o.elf) (arriving_owner o point.place q arrives) ∙ (entry_is o.elf point.place (and_true (is_plain point) (is_entry o.elf point.place) own.1).1).checked
+
+  -- control that comes to a plain point stands in code of its owner
+  pub arrives_owned : (q r : ℕ) → IsPoint (program_of o lists) q → (program_of o lists).variant q ≡ 0 → Contains (entry_points (program_of o lists) q) r
+      → ((program_of o lists).owner r ≡ (program_of o lists).owner q) × ((program_of o lists).unchecked r ≡ (program_of o lists).unchecked q)
+  unfolding program_of returning_graph graph_of
+  arrives_owned q r here plain arrives =
+      let at : address_of_point (alternatives_of o) (point_at o q) ≡ (point_at o q).place = address_plain o (point_at o q) plain in
+      let same : owner_of_point o (point_at o r) ≡ owner_of_point o (point_at o q) = arriving_owner o (point_at o q).place r arrives ∙ ap (owner_at o.elf) (sym at) in
+      (same, ap (is_unchecked o.elf) same)

@@ -1,6 +1,6 @@
 -- Where the edges of the points of an object lead.
 use Rattle.std.proofs.Common.{◌≡◌, ℕ, ◌<◌, Bool, true, false, cond, List, [], ◌∷◌, ◌++◌, Option, Some, None, Contains, refl, sym, subst, inl, inr}
-use Rattle.std.specs.Prelude.{◌≢◌}
+use Rattle.std.specs.Prelude.{◌≢◌, is_some}
 use Rattle.std.proofs.lemmas.List.Elements.{Contains-append_cases}
 use Rattle.ot_base.specs.declared.place.Place.{Place}
 use Rattle.operation_defs.specs.declared.op.Op.{Op}
@@ -24,7 +24,7 @@ use Rattle.flow_defs.specs.Sites.{is_into_site}
 use Rattle.flow_defs.specs.Arrival.{after, after_by, arrive, insn_of_object, next_of_replacement, place_behind}
 use Rattle.flow_defs.specs.Targets.{destination_of}
 use Rattle.flow_defs.specs.Ways.{hop_way, jump_way, listed_way, taken_only}
-use Rattle.flow_defs.specs.Roles.{table_of_point}
+use Rattle.flow_defs.specs.Roles.{returns_through, table_of_point}
 use Rattle.flow_defs.specs.Edges.{branch_edges, branch_edges_by, edges_to, fixups, goes, goes_on, hop_edges, jump_edges, listed_edges, next_edges, static_targets, table_edges, way_edges}
 use Rattle.object_law.proofs.Numbers.{edges_lead, numbers_are, point_count}
 
@@ -92,6 +92,14 @@ branch_comes o point (ops.Jcc rel wide) e c = jump_comes o point (destination_of
 branch_comes o point ops.Hop e c = hop_comes o point (destination_of o point) e c
 branch_comes o point _ e c = nowhere e c
 
+-- through code that returns for its caller none leads
+branches_come : (o : Coded) (point : Point) (e : Edge) → Contains (branch_edges o point) e → Comes o point e
+branches_come o point e c = go (is_some (returns_through o point)) c
+  where
+    go : (b : Bool) → Contains (cond b [] (branch_edges_by o point (insn_of_object o point).op)) e → Comes o point e
+    go true c = nowhere e c
+    go false c = branch_comes o point (insn_of_object o point).op e c
+
 listed_comes : (o : Coded) (kind : EdgeKind) → kind ≢ Sibling → (point : Point) (places : List Place) (e : Edge) → Contains (listed_edges o kind point places) e → Comes o point e
 listed_comes o kind other point places e c =
     let one = from_flat_map (λ place. way_edges o point place (listed_way o kind (owner_of_point o point) place)) places e c in
@@ -122,7 +130,7 @@ part_comes : (o : Coded) (point : Point) (e : Edge) → Contains (checked_edges 
 part_comes o point e c = elim (Contains-append_cases (next_edges o point) _ e c) [
   | inl d ↦ next_comes o point e d
   | inr c2 ↦ elim (Contains-append_cases (branch_edges o point) _ e c2) [
-    | inl d ↦ branch_comes o point (insn_of_object o point).op e d
+    | inl d ↦ branches_come o point e d
     | inr c3 ↦ elim (Contains-append_cases (listed_edges o Taken point (static_targets o point)) _ e c3) [
       | inl d ↦ listed_comes o Taken (λ is. let k : ⊥ = cc in k) point (static_targets o point) e d
       | inr c4 ↦ elim (Contains-append_cases (listed_edges o Fixup point (fixups o point)) _ e c4) [

@@ -38,7 +38,7 @@ use Rattle.flow_defs.specs.Arrival.{arrive, hint_of, insn_of_object, is_padding}
 use Rattle.flow_defs.specs.Sites.{site_holding, sites_of}
 use Rattle.flow_defs.specs.Targets.{destination_of}
 use Rattle.flow_defs.specs.Ways.{jump_way}
-use Rattle.flow_defs.specs.Roles.{call_by, call_role, entry_call, is_called, jump_by_table, jump_by_way, jump_role, may_call, place_call, plain_number, role_by, role_of, table_of_point}
+use Rattle.flow_defs.specs.Roles.{call_by, call_of_gate, call_role, entry_call, gate_called, is_called, jump_by_table, jump_by_way, jump_role, may_call, place_call, plain_number, returns_through, role_by, role_of, role_through, table_of_point}
 use Rattle.flow_defs.specs.Program.{entries_of, graph_of, is_entry_point, program_of, returning_graph}
 use Rattle.object_law.proofs.Levels.{and_true}
 use Rattle.object_law.proofs.Numbers.{numbered, point_count}
@@ -100,22 +100,31 @@ entry_called entry (Some sym) = refl
 same_some : {X : Type 0} {x y : X} → Some x ≡ Some y → x ≡ y
 same_some e = cc
 
--- what code of no function calls though no function starts there, by its number
-record IsFreeCallee (o : Coded) (point : Point) (entry : ℕ) : Type 0 where
-  place : Place
-  passes : may_call o point place ≡ true
-  inside : entry < point_count o
-  is : point_at o entry ≡ plain_point place
+-- what a point calls of code of no function, by its number
+pub record IsFreeCallee (o : Coded) (point : Point) (entry : ℕ) : Type 0 where
+  pub place : Place
+  pub boundary : is_boundary (texts_of o) place ≡ true
+  pub passes : may_call o point place ≡ true
+  pub inside : entry < point_count o
+  pub is : point_at o entry ≡ plain_point place
 
 -- the point that a call goes to is an entry, or such a place
-abbrev IsCalled : Coded → Point → ℕ → Type 0
+abbrev pub IsCalled : Coded → Point → ℕ → Type 0
 IsCalled o point entry = Contains (entries_of o) entry ⊎ IsFreeCallee o point entry
 
 free_callee : (o : Coded) (point : Point) (place : Place) → is_boundary (texts_of o) place ≡ true → may_call o point place ≡ true → IsFreeCallee o point (plain_number o place)
 free_callee o point place boundary passes =
     let has = has_number o (plain_point place) (plain_listed o place boundary) in
     let own = numbered o (plain_point place) has.0 has.1 in
-    subst (IsFreeCallee o point) (ap (λ n. unwrap_or n 0) (sym has.1)) (record { place = place; passes = passes; inside = own.0; is = own.1 })
+    subst (IsFreeCallee o point) (ap (λ n. unwrap_or n 0) (sym has.1)) (record { place = place; boundary = boundary; passes = passes; inside = own.0; is = own.1 })
+
+nothing : {P : Type 0} {entry : ℕ} (r : Option ℕ) → r ≡ None → r ≡ Some entry → P
+nothing r none some = absurd (let k : ⊥ = cc in k)
+
+-- a gate is called as code outside
+gate_calls_none : (gate : Option ℕ) → called (call_of_gate gate) ≡ None
+gate_calls_none None = refl
+gate_calls_none (Some sym) = refl
 
 place_called : (o : Coded) (point : Point) (place : Place) (weak : Option ℕ) (entry : ℕ) → called (place_call o point place weak) ≡ Some entry → IsCalled o point entry
 place_called o point place weak entry is = by_boundary (is_boundary (texts_of o) place) refl is
@@ -124,9 +133,9 @@ place_called o point place weak entry is = by_boundary (is_boundary (texts_of o)
     callee boundary (inl e) = inl (listed_entry o place boundary e).listed
     callee boundary (inr passes) = inr (free_callee o point place boundary passes)
 
-    by_entry : (b : Bool) → is_boundary (texts_of o) place ≡ true → is_called o point place ≡ b → called (cond b (entry_call (plain_number o place) weak) roles.Plain) ≡ Some entry → IsCalled o point entry
+    by_entry : (b : Bool) → is_boundary (texts_of o) place ≡ true → is_called o point place ≡ b → called (cond b (entry_call (plain_number o place) weak) (call_of_gate (gate_called o point place))) ≡ Some entry → IsCalled o point entry
     by_entry true boundary e is = subst (IsCalled o point) (same_some (sym (entry_called (plain_number o place) weak) ∙ is)) (callee boundary (or_cases (is_entry o.elf place) (may_call o point place) e))
-    by_entry false boundary e is = absurd (let k : ⊥ = cc in k)
+    by_entry false boundary e is = nothing (called (call_of_gate (gate_called o point place))) (gate_calls_none (gate_called o point place)) is
 
     by_start : (start : Option ℕ) → is_boundary (texts_of o) place ≡ true → called (call_by o point place weak start) ≡ Some entry → IsCalled o point entry
     by_start (Some f) boundary is = absurd (let k : ⊥ = cc in k)
@@ -166,15 +175,21 @@ jump_calls_none o point ToIndirectThunk = table_calls_none (table_of_point o poi
 jump_calls_none o point ToReturnThunk = refl
 jump_calls_none o point ToNowhere = refl
 
-nothing : {P : Type 0} {entry : ℕ} (r : Option ℕ) → r ≡ None → r ≡ Some entry → P
-nothing r none some = absurd (let k : ⊥ = cc in k)
-
 role_called : (o : Coded) (point : Point) (op : Op) (entry : ℕ) → called (role_by o point op) ≡ Some entry → IsCalled o point entry
 role_called o point (ops.Call rel) entry is = call_called o point (destination_of o point) entry is
 role_called o point (ops.Jmp rel wide) entry is = nothing (called (jump_role o point (destination_of o point))) (jump_calls_none o point (destination_of o point)) is
 role_called o point (ops.Jcc rel wide) entry is = nothing (called (jump_role o point (destination_of o point))) (jump_calls_none o point (destination_of o point)) is
 role_called o point (ops.JmpInd field) entry is = nothing (called (jump_by_table (table_of_point o point))) (table_calls_none (table_of_point o point)) is
 role_called o point _ entry is = nothing None refl is
+
+-- code that returns for its caller is no callee
+pub point_called : (o : Coded) (point : Point) (entry : ℕ) → called (role_of o point) ≡ Some entry → IsCalled o point entry
+unfolding role_of
+point_called o point entry is = go (returns_through o point) is
+  where
+    go : (through : Option ℕ) → called (role_through o point through) ≡ Some entry → IsCalled o point entry
+    go (Some sym) is = absurd (let k : ⊥ = cc in k)
+    go None is = role_called o point (insn_of_object o point).op entry is
 
 -- a tail call comes to a place that is an entry
 sibling_entry : (o : Elf) (crossing : Crossing) (asked : EdgeKind) (from : Option ℕ) (place : Place) → asked ≢ Sibling → Leads o crossing asked from place Sibling → is_entry o place ≡ true
@@ -203,50 +218,7 @@ tail_call o point q (Comes.within other same c kind) = absurd (let k : ⊥ = cc 
 tail_call o point q (Comes.listed asked other place kind way to) = by_way o MayCross asked (owner_of_point o point) place kind q other (sym to.is_kind) (listed_leads o asked (owner_of_point o point) place kind way) to.arrives
 tail_call o point q (Comes.table place c to) = absurd (let is = to.is_kind in let k : ⊥ = cc in k)
 
--- no site holds a place that none is found to hold
-held_by_none : (o : Coded) (place : Place) → is_none (site_holding o place) ≡ true → (site : Site) → Contains (sites_of o) site → in_site site place ≡ false
-unfolding site_holding
-held_by_none o place none site c = elim (finds (λ s. in_site s place) (sites_of o)) [
-  | inl missing ↦ missing.1 site c
-  | inr one ↦ absurd (false≢true (ap is_none (sym one.1) ∙ none))
-]
-
-no_one : {X : Type 0} (found : Option X) → is_none found ≡ true → found ≡ None
-no_one None e = refl
-no_one (Some x) e = absurd (false≢true e)
-
 module _ (o : Coded) (lists : NameLists) where
-  -- such a place is what the machine lets code of no function call
-  may_call_there : (q entry : ℕ) → IsFreeCallee o (point_at o q) entry → MayCall (program_of o lists) q entry
-  unfolding program_of returning_graph graph_of
-  may_call_there q entry free =
-      let place = free.place in
-      let from = and_true (is_none (owner_of_point o (point_at o q))) _ free.passes in
-      let of = and_true (is_none (owner_at o.elf place)) _ from.1 in
-      let rest = and_true (is_call_hint (hint_of o (plain_point place))) (is_none (site_holding o place)) of.1 in
-      record {
-        point = free.inside;
-        plain = ap (λ (p : Point). p.variant) free.is;
-        from_none = no_one (owner_of_point o (point_at o q)) from.0;
-        of_none = ap (λ (p : Point). owner_of_point o p) free.is ∙ no_one (owner_at o.elf place) of.0;
-        outside = λ site c. ap (λ (p : Point). in_site site p.place) free.is ∙ held_by_none o place rest.1 site c;
-        hinted = ap (λ (p : Point). is_call_hint (hint_of o p)) free.is ∙ rest.0;
-      }
-
-  callee_is : (q entry : ℕ) → IsCalled o (point_at o q) entry → IsCallee (program_of o lists) q entry
-  unfolding program_of returning_graph graph_of
-  callee_is q entry (inl listed) = inl listed
-  callee_is q entry (inr free) = inr (may_call_there q entry free)
-
-  -- calls inside the program go to entries, or to what code of no function may call
-  pub calls_entry : (q entry : ℕ) → IsPoint (program_of o lists) q → (program_of o lists).role q ≡ roles.CallIn entry → IsCallee (program_of o lists) q entry
-  unfolding program_of returning_graph graph_of role_of
-  calls_entry q entry here is = callee_is q entry (role_called o (point_at o q) (insn_of_object o (point_at o q)).op entry (ap called is))
-
-  pub calls_weak_entry : (q entry sym : ℕ) → IsPoint (program_of o lists) q → (program_of o lists).role q ≡ roles.CallEither entry sym → IsCallee (program_of o lists) q entry
-  unfolding program_of returning_graph graph_of role_of
-  calls_weak_entry q entry sym here is = callee_is q entry (role_called o (point_at o q) (insn_of_object o (point_at o q)).op entry (ap called is))
-
   -- tail calls go to entries
   pub siblings : (q r : ℕ) → IsPoint (program_of o lists) q → Contains ((program_of o lists).goes q) (edge r Sibling) → (entry : ℕ) × Contains (program_of o lists).entries entry × Contains (entry_points (program_of o lists) entry) r
   unfolding program_of returning_graph graph_of

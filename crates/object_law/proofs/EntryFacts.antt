@@ -6,6 +6,7 @@ use Rattle.std.proofs.lemmas.Bool.{cases_lt, false≢true, ltb-false, ne_eqb, no
 use Rattle.std.proofs.lemmas.List.{get_or_past}
 use Rattle.std.proofs.lemmas.List.Elements.{Contains-get_or}
 use Rattle.elf_objects.specs.Elf.{Elf}
+use Rattle.ot_base.specs.NameLists.{NameLists}
 use Rattle.flow_defs.specs.Coded.{Coded}
 use Rattle.special_sections.specs.declared.entries.AltEntry.{AltEntry}
 use Rattle.special_sections.specs.declared.fault.Why.TheVariants.{Length, NoReloc, NotText}
@@ -42,8 +43,8 @@ record IsRight (o : Elf) (a : AltEntry) : Type 0 where
   is : tables.alternative_from o sec (14 * entry) ≡ a
   right : tables.alternative_why_from o sec (14 * entry) ≡ None
 
-right_entry : (o : Coded) (a : AltEntry) → special_faults o.elf ≡ [] → Contains (entries tables.alternatives o.elf) a → IsRight o.elf a
-right_entry o a none c =
+right_entry : (o : Coded) (lists : NameLists) (a : AltEntry) → special_faults o.elf lists ≡ [] → Contains (entries tables.alternatives o.elf) a → IsRight o.elf a
+right_entry o lists a none c =
     let of_alternatives : faults tables.alternatives o.elf ≡ [] = (parts_none (faults tables.alternatives o.elf) _ none).0 in
     let sec = from_flat_map (section_entries tables.alternatives o.elf) (sections_named o.elf tables.alternatives.name) a c in
     let of_section = each_none (section_faults tables.alternatives o.elf) (sections_named o.elf tables.alternatives.name) sec.0 of_alternatives sec.1 in
@@ -79,11 +80,11 @@ own_counts zero len none counting = absurd (false≢true (ap (λ n. not (n == 0)
 own_counts (suc own) len none counting = not_from_false (suc own == 0) (ne_eqb (suc own) 0 (λ e. omega (arith, e)))
 
 -- and it is no longer by the longest original at its place
-nested_short : (o : Coded) (a : AltEntry) → special_faults o.elf ≡ [] → Contains (alternatives_of o) a → counts a ≡ true → a.replacement_len ≤ a.original_len
-nested_short o a none c counting =
+nested_short : (o : Coded) (lists : NameLists) (a : AltEntry) → special_faults o.elf lists ≡ [] → Contains (alternatives_of o) a → counts a ≡ true → a.replacement_len ≤ a.original_len
+nested_short o lists a none c counting =
     let from = nested_from (entries tables.alternatives o.elf) a c in
     let own = from.own in
-    let short = short_enough o.elf own (own_counts own.original_len a.original_len from.none counting) (length_right o.elf own (right_entry o own none from.written)) in
+    let short = short_enough o.elf own (own_counts own.original_len a.original_len from.none counting) (length_right o.elf own (right_entry o lists own none from.written)) in
     let same : a.replacement_len ≡ own.replacement_len = ap (λ (e : AltEntry). e.replacement_len) from.same in
     omega (arith, same, short, from.no_less)
 
@@ -137,5 +138,5 @@ entry_is o k order counting =
       original_end = cut_in o (behind a.original a.original_len) order.bytes original.1;
       replacement = cut_in o a.replacement order.bytes replacement.0;
       replacement_end = cut_in o (behind a.replacement a.replacement_len) order.bytes replacement.1;
-      short = nested_short o a order.special (Contains-get_or (alternatives_of o) k no_entry inside) counting;
+      short = nested_short o order.under a order.special (Contains-get_or (alternatives_of o) k no_entry inside) counting;
     }

@@ -1,9 +1,14 @@
 -- What the laws ask of programs, field by field: what needs no fact about the object.
-use Rattle.std.proofs.Common.{◌≡◌, ℕ, ◌<◌, Bool, true, false, cond, Option, Some, None, Contains, sym, ap}
+use Rattle.std.proofs.Common.{◌≡◌, ℕ, ◌<◌, Bool, true, false, cond, Option, Some, None, Contains, ◌&&◌, refl, sym, ap, ◌∙◌}
+use Rattle.std.proofs.lemmas.Bool.{false≢true}
 use Rattle.std.specs.Prelude.{◌↔◌, option_and_then}
 use Rattle.ot_base.specs.NameLists.{NameLists}
 use Rattle.ot_base.specs.declared.place.Place.{Place}
+use Rattle.operation_defs.specs.declared.op.Op.{Op}
 use Rattle.operation_defs.specs.declared.op.Op.TheVariants as ops
+use Rattle.operation_defs.specs.Made.{Around, made}
+use Rattle.symbols_relocs.specs.BranchNames.{name_by}
+use Rattle.symbols_relocs.specs.Displacements.{displacement_of}
 use Rattle.flow_defs.specs.Coded.{Coded}
 use Rattle.machine_defs.specs.declared.flow.Edge.{Edge}
 use Rattle.machine_defs.specs.declared.flow.Role.TheVariants as roles
@@ -14,11 +19,39 @@ use Rattle.flow_defs.specs.Code.{number_of, point_at}
 use Rattle.flow_defs.specs.Owners.{is_unchecked}
 use Rattle.flow_defs.specs.Hints.{hint_of, is_restore, nearest, save_of, saves_before}
 use Rattle.flow_defs.specs.Program.{graph_of, program_of, returning_graph}
-use Rattle.flow_defs.specs.Roles.{role_by, role_of}
+use Rattle.flow_defs.specs.Roles.{returns_through, returns_through_by, role_by, role_of, role_through}
+use Rattle.flow_defs.specs.Arrival.{around, decoded_insn, insn_of_object}
+use Rattle.flow_defs.specs.Switching.{around_by, insn_by}
 use Rattle.object_law.specs.Returning.{StaysAtPoints}
 use Rattle.object_law.proofs.Numbers.{numbered, point_count}
 use Rattle.object_law.proofs.Edges.{after_points, arrive_points, edges_inside}
 use Rattle.object_law.proofs.Levels.{levels_are_enough}
+
+abbrev drops : Op → Bool
+drops ops.RetImm = true
+drops _ = false
+
+either : (b : Bool) (one other : Op) → drops one ≡ false → drops other ≡ false → cond b one other ≡ ops.RetImm → ⊥
+either true one other h k e = false≢true (sym h ∙ ap drops e)
+either false one other h k e = false≢true (sym k ∙ ap drops e)
+
+-- what a program makes of no other operation is a return that drops bytes
+made_of_drop : (around : Around) (op : Op) → made around op ≡ ops.RetImm → op ≡ ops.RetImm
+made_of_drop around (ops.Call rel) e = absurd (either around.returning (ops.Jmp rel true) (cond around.intra_call ops.Hop (ops.Call rel)) refl (hop around.intra_call) e)
+  where
+    hop : (b : Bool) → drops (cond b ops.Hop (ops.Call rel)) ≡ false
+    hop true = refl
+    hop false = refl
+made_of_drop around (ops.LeaBpSp by) e = absurd (either around.makes_room (ops.LeaBpRoom by) (ops.LeaBpSp by) refl refl e)
+made_of_drop around ops.Iret e = absurd (either around.within ops.IretNext ops.Iret refl refl e)
+made_of_drop around ops.Switch e = absurd (either (around.within && around.hinted) ops.SpOther ops.Switch refl refl e)
+made_of_drop around ops.SpOther e = absurd (either around.loads_stack ops.BpOther ops.SpOther refl refl e)
+made_of_drop around _ e = e
+
+role_of_drop : (o : Coded) (point : Point) → (decoded_insn o point).op ≡ ops.RetImm → role_of o point ≡ roles.Return
+unfolding role_of returns_through insn_of_object
+role_of_drop o point is =
+    ap (λ (op : Op). role_through o point (returns_through_by o point op)) is ∙ ap (λ (op : Op). role_by o point (made (around o point) op)) is
 
 module _ (o : Coded) (lists : NameLists) where
   -- edges lead to points
@@ -54,10 +87,13 @@ module _ (o : Coded) (lists : NameLists) where
   unfolding program_of returning_graph graph_of
   unowned q here none = ap (is_unchecked o.elf) none
 
-  -- a return that drops bytes is a return
-  pub returns : (q : ℕ) → IsPoint (program_of o lists) q → ((program_of o lists).insn q).op ≡ ops.RetImm → (program_of o lists).role q ≡ roles.Return
-  unfolding program_of returning_graph graph_of role_of
-  returns q here is = ap (role_by o (point_at o q)) is
+  -- a return that drops bytes is a return, and names nothing
+  pub returns : (q : ℕ) → IsPoint (program_of o lists) q → ((program_of o lists).insn q).op ≡ ops.RetImm → ((program_of o lists).role q ≡ roles.Return) × ((program_of o lists).names q ≡ None)
+  unfolding program_of returning_graph graph_of insn_by
+  returns q here is =
+      let point = point_at o q in
+      let drops : (decoded_insn o point).op ≡ ops.RetImm = made_of_drop (around_by o lists point) (decoded_insn o point).op is in
+      (role_of_drop o point drops, ap (λ (op : Op). option_and_then (name_by o.elf point.place (decoded_insn o point).len) (displacement_of op)) drops)
 
   stays : StaysAtPoints (graph_of o lists)
   unfolding graph_of

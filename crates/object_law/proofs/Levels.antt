@@ -11,8 +11,9 @@ use Rattle.machine_defs.specs.declared.flow.EdgeKind.TheVariants.{Next, Taken, F
 use Rattle.machine_defs.specs.declared.flow.Role.{Role}
 use Rattle.machine_defs.specs.declared.flow.Role.TheVariants.{Plain, CallIn, CallEither, CallOut, CallAny, Return, JumpOut, JumpAny, Switch}
 use Rattle.machine_defs.specs.Program.{Program, IsPoint, edge, entry_points, is_call}
-use Rattle.machine_defs.specs.MayReturn.{MayReturn, is_listed, may_call_out}
-use Rattle.flow_defs.specs.Returning.{call_returns, is_next, leads_to_return, returns_at_last, returns_by, returns_within}
+use Rattle.machine_defs.specs.MayReturn.{MayReturn, is_listed, may_return_outright}
+use Rattle.machine_defs.specs.Ways.{is_next}
+use Rattle.flow_defs.specs.Returning.{call_returns, callee_returns, leads_to_return, returns_at_last, returns_by, returns_within}
 use Rattle.object_law.specs.Returning.{StaysAtPoints}
 use Rattle.object_law.proofs.Counting.{count, Agree, grows, all_pass}
 
@@ -65,24 +66,24 @@ next_only Sibling e = absurd (false≢true e)
 next_edge : (p : Program) (q : ℕ) (e : Edge) → Contains (p.goes q) e → e.kind ≡ Next → Contains (p.goes q) (edge e.to Next)
 next_edge p q e listed is = subst (λ (k : EdgeKind). Contains (p.goes q) (edge e.to k)) is listed
 
-comes_back_sound : (p : Program) (known : ℕ → Bool) (q : ℕ) (e : Edge) (r : Role) → Sound p known → p.role q ≡ r → call_returns p known r ≡ true → p.dead_end q ≡ false → Contains (p.goes q) (edge e.to Next) → MayReturn p e.to → MayReturn p q
-comes_back_sound p known q e (CallIn entry) sound is passes dead listed from =
-    let parts = and_true (list_any known (entry_points p entry)) (not (is_listed p (CallIn entry))) passes in
-    let first = Any-from_list_any known (entry_points p entry) parts.0 in
-    MayReturn.comes_back_in q e.to entry first.1 is (not_true (is_listed p (CallIn entry)) parts.1) dead (first.0, first.2, first.3) (sound first.1 first.4) listed from
-comes_back_sound p known q e Plain sound is passes dead listed from = absurd (false≢true passes)
-comes_back_sound p known q e (CallEither entry sym) sound is passes dead listed from = MayReturn.comes_back q e.to (ap (may_call_out p) is ∙ passes) dead listed from
-comes_back_sound p known q e (CallOut sym) sound is passes dead listed from = MayReturn.comes_back q e.to (ap (may_call_out p) is ∙ passes) dead listed from
-comes_back_sound p known q e CallAny sound is passes dead listed from = MayReturn.comes_back q e.to (ap (may_call_out p) is ∙ passes) dead listed from
-comes_back_sound p known q e Return sound is passes dead listed from = absurd (false≢true passes)
-comes_back_sound p known q e (JumpOut sym) sound is passes dead listed from = absurd (false≢true passes)
-comes_back_sound p known q e JumpAny sound is passes dead listed from = absurd (false≢true passes)
-comes_back_sound p known q e Switch sound is passes dead listed from = absurd (false≢true passes)
+callee_sound : (p : Program) (known : ℕ → Bool) (q : ℕ) (e : Edge) (r : Role) → Sound p known → p.role q ≡ r → callee_returns p known r ≡ true → is_listed p q ≡ false → p.dead_end q ≡ false → Contains (p.goes q) (edge e.to Next) → MayReturn p e.to → MayReturn p q
+callee_sound p known q e (CallIn entry) sound is passes unlisted dead listed from =
+    let first = Any-from_list_any known (entry_points p entry) passes in
+    MayReturn.comes_back_in q e.to entry first.1 is unlisted dead (first.0, first.2, first.3) (sound first.1 first.4) listed from
+callee_sound p known q e _ sound is passes unlisted dead listed from = absurd (false≢true passes)
+
+comes_back_sound : (p : Program) (known : ℕ → Bool) (q : ℕ) (e : Edge) → Sound p known → call_returns p known q ≡ true → p.dead_end q ≡ false → Contains (p.goes q) (edge e.to Next) → MayReturn p e.to → MayReturn p q
+comes_back_sound p known q e sound passes dead listed from = elim (or_true (may_return_outright p q) (callee_returns p known (p.role q) && not (is_listed p q)) passes) [
+  | inl outright ↦ MayReturn.comes_back q e.to outright dead listed from
+  | inr inside ↦
+      let parts = and_true (callee_returns p known (p.role q)) (not (is_listed p q)) inside in
+      callee_sound p known q e (p.role q) sound refl parts.0 (not_true (is_listed p q) parts.1) dead listed from
+]
 
 edge_sound : (p : Program) (known : ℕ → Bool) (q : ℕ) (e : Edge) → Sound p known → Contains (p.goes q) e → leads_to_return p known q e ≡ true → MayReturn p q
 edge_sound p known q e sound listed passes = go (is_next e.kind) refl (and_true _ _ passes)
   where
-    go : (b : Bool) → is_next e.kind ≡ b → (known e.to ≡ true) × ((not (is_next e.kind) || (not (is_call (p.role q)) || (not (p.dead_end q) && call_returns p known (p.role q)))) ≡ true) → MayReturn p q
+    go : (b : Bool) → is_next e.kind ≡ b → (known e.to ≡ true) × ((not (is_next e.kind) || (not (is_call (p.role q)) || (not (p.dead_end q) && call_returns p known q))) ≡ true) → MayReturn p q
     go false other both = MayReturn.branches q e (λ is. false≢true (sym other ∙ ap is_next is)) listed (sound e.to both.0)
     go true next both = elim (or_true _ _ both.1) [
       | inl other ↦ absurd (true≢false (sym next ∙ not_true (is_next e.kind) other))
@@ -90,7 +91,7 @@ edge_sound p known q e sound listed passes = go (is_next e.kind) refl (and_true 
         | inl plain ↦ MayReturn.goes_on q e (not_true (is_call (p.role q)) plain) listed (sound e.to both.0)
         | inr back ↦
             let parts = and_true _ _ back in
-            comes_back_sound p known q e (p.role q) sound refl parts.1 (not_true (p.dead_end q) parts.0) (next_edge p q e listed (next_only e.kind next)) (sound e.to both.0)
+            comes_back_sound p known q e sound parts.1 (not_true (p.dead_end q) parts.0) (next_edge p q e listed (next_only e.kind next)) (sound e.to both.0)
       ]
     ]
 
@@ -111,30 +112,27 @@ Within f g = (r : ℕ) → f r ≡ true → g r ≡ true
 any_more : {X : Type 0} (f g : X → Bool) (xs : List X) → ((x : X) → f x ≡ true → g x ≡ true) → list_any f xs ≡ true → list_any g xs ≡ true
 any_more f g xs more passes = let one = Any-from_list_any f xs passes in list_any-from_Any g xs (one.0, one.1, one.2, one.3, more one.1 one.4)
 
-call_more : (p : Program) (f g : ℕ → Bool) (r : Role) → Within f g → call_returns p f r ≡ true → call_returns p g r ≡ true
-call_more p f g (CallIn entry) more passes =
-    let unlisted = not (is_listed p (CallIn entry)) in
-    and_more (list_any f (entry_points p entry)) unlisted (list_any g (entry_points p entry)) unlisted (any_more f g (entry_points p entry) more) (λ h. h) passes
-call_more p f g Plain more passes = passes
-call_more p f g (CallEither entry sym) more passes = passes
-call_more p f g (CallOut sym) more passes = passes
-call_more p f g CallAny more passes = passes
-call_more p f g Return more passes = passes
-call_more p f g (JumpOut sym) more passes = passes
-call_more p f g JumpAny more passes = passes
-call_more p f g Switch more passes = passes
+callee_more : (p : Program) (f g : ℕ → Bool) (r : Role) → Within f g → callee_returns p f r ≡ true → callee_returns p g r ≡ true
+callee_more p f g (CallIn entry) more passes = any_more f g (entry_points p entry) more passes
+callee_more p f g _ more passes = absurd (false≢true passes)
+
+call_more : (p : Program) (f g : ℕ → Bool) (q : ℕ) → Within f g → call_returns p f q ≡ true → call_returns p g q ≡ true
+call_more p f g q more passes =
+    let unlisted = not (is_listed p q) in
+    or_more (may_return_outright p q) (callee_returns p f (p.role q) && unlisted) (may_return_outright p q) (callee_returns p g (p.role q) && unlisted) (λ h. h)
+    (and_more (callee_returns p f (p.role q)) unlisted (callee_returns p g (p.role q)) unlisted (callee_more p f g (p.role q) more) (λ h. h)) passes
 
 edge_more : (p : Program) (f g : ℕ → Bool) (q : ℕ) (e : Edge) → Within f g → leads_to_return p f q e ≡ true → leads_to_return p g q e ≡ true
 edge_more p f g q e more =
     let n = not (is_next e.kind) in
     let c = not (is_call (p.role q)) in
     let d = not (p.dead_end q) in
-    let one = call_returns p f (p.role q) in
-    let other = call_returns p g (p.role q) in
+    let one = call_returns p f q in
+    let other = call_returns p g q in
     and_more (f e.to) (n || (c || (d && one))) (g e.to) (n || (c || (d && other))) (more e.to)
     (or_more n (c || (d && one)) n (c || (d && other)) (λ h. h)
     (or_more c (d && one) c (d && other) (λ h. h)
-    (and_more d one d other (λ h. h) (call_more p f g (p.role q) more))))
+    (and_more d one d other (λ h. h) (call_more p f g q more))))
 
 by_more : (p : Program) (f g : ℕ → Bool) (q : ℕ) → Within f g → returns_by p f q ≡ true → returns_by p g q ≡ true
 by_more p f g q more =
@@ -171,23 +169,12 @@ is_kind e other = go (is_next e.kind) refl
     go true is = absurd (other (next_only e.kind is))
     go false is = is
 
-called_out : (p : Program) (known : ℕ → Bool) (r : Role) → may_call_out p r ≡ true → call_returns p known r ≡ true
-called_out p known (CallIn entry) passes = absurd (false≢true passes)
-called_out p known Plain passes = passes
-called_out p known (CallEither entry sym) passes = passes
-called_out p known (CallOut sym) passes = passes
-called_out p known CallAny passes = passes
-called_out p known Return passes = passes
-called_out p known (JumpOut sym) passes = passes
-called_out p known JumpAny passes = passes
-called_out p known Switch passes = passes
-
 -- a call that comes back leads to where it does
-back_edge : (p : Program) (known : ℕ → Bool) (q r : ℕ) → known r ≡ true → p.dead_end q ≡ false → call_returns p known (p.role q) ≡ true → leads_to_return p known q (edge r Next) ≡ true
+back_edge : (p : Program) (known : ℕ → Bool) (q r : ℕ) → known r ≡ true → p.dead_end q ≡ false → call_returns p known q ≡ true → leads_to_return p known q (edge r Next) ≡ true
 back_edge p known q r from alive back =
     let plain = not (is_call (p.role q)) in
     let passes = not (p.dead_end q) in
-    let returning = call_returns p known (p.role q) in
+    let returning = call_returns p known q in
     and_from (known r) (plain || (passes && returning)) from (or_right plain (passes && returning) (and_from passes returning (not_from_false (p.dead_end q) alive) back))
 
 pub on_level : (p : Program) (q : ℕ) → MayReturn p q → OnLevel p q
@@ -203,14 +190,14 @@ on_level p _ (MayReturn.branches q e other listed from) =
 on_level p _ (MayReturn.comes_back q r back alive listed from) =
     let there = on_level p r from in
     let known = returns_within p there.0 in
-    along p q there.0 (edge r Next) listed (back_edge p known q r there.1 alive (called_out p known (p.role q) back))
+    along p q there.0 (edge r Next) listed (back_edge p known q r there.1 alive (or_left (may_return_outright p q) (callee_returns p known (p.role q) && not (is_listed p q)) back))
 on_level p _ (MayReturn.comes_back_in q r entry first is unlisted alive arrives from_first listed from) =
     let there = on_level p r from in
     let inside = on_level p first from_first in
     let n = there.0 + inside.0 in
     let known = returns_within p n in
     let passes : list_any known (entry_points p entry) ≡ true = list_any-from_Any known (entry_points p entry) (arrives.0, first, arrives.1, arrives.2, up_to p inside.0 n first (omega arith) inside.1) in
-    along p q n (edge r Next) listed (back_edge p known q r (up_to p there.0 n r (omega arith) there.1) alive (ap (call_returns p known) is ∙ and_from (list_any known (entry_points p entry)) (not (is_listed p (CallIn entry))) passes (not_from_false (is_listed p (CallIn entry)) unlisted)))
+    along p q n (edge r Next) listed (back_edge p known q r (up_to p there.0 n r (omega arith) there.1) alive (or_right (may_return_outright p q) (callee_returns p known (p.role q) && not (is_listed p q)) (and_from (callee_returns p known (p.role q)) (not (is_listed p q)) (ap (callee_returns p known) is ∙ passes) (not_from_false (is_listed p q) unlisted))))
 
 -- tests that agree on points lead to the same
 any_same : {X : Type 0} (f g : X → Bool) (xs : List X) → ((x : X) → Contains xs x → f x ≡ true → g x ≡ true) → list_any f xs ≡ true → list_any g xs ≡ true
@@ -220,30 +207,27 @@ any_same f g xs more passes = let one = Any-from_list_any f xs passes in list_an
 abbrev pub WithinPoints : Program → (ℕ → Bool) → (ℕ → Bool) → Type 0
 WithinPoints p f g = (r : ℕ) → IsPoint p r → f r ≡ true → g r ≡ true
 
-call_same : (p : Program) (f g : ℕ → Bool) (r : Role) → StaysAtPoints p → WithinPoints p f g → call_returns p f r ≡ true → call_returns p g r ≡ true
-call_same p f g (CallIn entry) stays more passes =
-    let unlisted = not (is_listed p (CallIn entry)) in
-    and_more (list_any f (entry_points p entry)) unlisted (list_any g (entry_points p entry)) unlisted (any_same f g (entry_points p entry) (λ x listed. more x (stays.entries entry x listed))) (λ h. h) passes
-call_same p f g Plain stays more passes = passes
-call_same p f g (CallEither entry sym) stays more passes = passes
-call_same p f g (CallOut sym) stays more passes = passes
-call_same p f g CallAny stays more passes = passes
-call_same p f g Return stays more passes = passes
-call_same p f g (JumpOut sym) stays more passes = passes
-call_same p f g JumpAny stays more passes = passes
-call_same p f g Switch stays more passes = passes
+callee_same : (p : Program) (f g : ℕ → Bool) (r : Role) → StaysAtPoints p → WithinPoints p f g → callee_returns p f r ≡ true → callee_returns p g r ≡ true
+callee_same p f g (CallIn entry) stays more passes = any_same f g (entry_points p entry) (λ x listed. more x (stays.entries entry x listed)) passes
+callee_same p f g _ stays more passes = absurd (false≢true passes)
+
+call_same : (p : Program) (f g : ℕ → Bool) (q : ℕ) → StaysAtPoints p → WithinPoints p f g → call_returns p f q ≡ true → call_returns p g q ≡ true
+call_same p f g q stays more passes =
+    let unlisted = not (is_listed p q) in
+    or_more (may_return_outright p q) (callee_returns p f (p.role q) && unlisted) (may_return_outright p q) (callee_returns p g (p.role q) && unlisted) (λ h. h)
+    (and_more (callee_returns p f (p.role q)) unlisted (callee_returns p g (p.role q)) unlisted (callee_same p f g (p.role q) stays more) (λ h. h)) passes
 
 edge_same : (p : Program) (f g : ℕ → Bool) (q : ℕ) (e : Edge) → StaysAtPoints p → IsPoint p e.to → WithinPoints p f g → leads_to_return p f q e ≡ true → leads_to_return p g q e ≡ true
 edge_same p f g q e stays there more =
     let n = not (is_next e.kind) in
     let c = not (is_call (p.role q)) in
     let d = not (p.dead_end q) in
-    let one = call_returns p f (p.role q) in
-    let other = call_returns p g (p.role q) in
+    let one = call_returns p f q in
+    let other = call_returns p g q in
     and_more (f e.to) (n || (c || (d && one))) (g e.to) (n || (c || (d && other))) (more e.to there)
     (or_more n (c || (d && one)) n (c || (d && other)) (λ h. h)
     (or_more c (d && one) c (d && other) (λ h. h)
-    (and_more d one d other (λ h. h) (call_same p f g (p.role q) stays more))))
+    (and_more d one d other (λ h. h) (call_same p f g q stays more))))
 
 by_same : (p : Program) (f g : ℕ → Bool) (q : ℕ) → StaysAtPoints p → IsPoint p q → WithinPoints p f g → returns_by p f q ≡ true → returns_by p g q ≡ true
 by_same p f g q stays here more =

@@ -10,7 +10,6 @@ pub mod Entries
 pub mod HintStates
 pub mod Signed
 pub mod Decoded
-pub mod Whole
 pub mod Listed
 pub mod Bodies
 pub mod PointKinds
@@ -22,10 +21,11 @@ pub mod HintPoints
 pub mod LaidOut
 pub mod Ascend
 pub mod Starts
+pub mod Callees
+pub mod Whole
 pub mod Replaced
 pub mod EdgesEnter
 pub mod Enters
-pub mod Alone
 pub mod FitRows
 pub mod PlacedRows
 pub mod Functions

@@ -13,7 +13,7 @@ use Rattle.alternatives.specs.Texts.{insn_at}
 use Rattle.alternatives.proofs.Ascending.{every-in, in_contains}
 use Rattle.alternatives.proofs.Listing.{points_sound}
 use Rattle.flow_defs.specs.Code.{alternatives_of, no_point, point_at, points_of_object, texts_of}
-use Rattle.flow_defs.specs.Arrival.{decoded_insn, no_insn}
+use Rattle.flow_defs.specs.Decoded.{decoded_insn, no_insn}
 use Rattle.object_law.specs.Flows.{HasBytes}
 use Rattle.object_law.proofs.Bodies.{IsAt, is_at}
 use Rattle.object_law.proofs.Numbers.{point_count}

@@ -24,9 +24,9 @@ pub record ObjectIsInOrder (o : Coded) : Type 0 where
   pub special : special_faults o.elf under ≡ []
   pub sites : AreRight (texts_of o) (alternatives_of o) (length (alternatives_of o))
 
--- The program of every object is one, as the laws ask.
+-- The program of every object in order is one, as the laws ask.
 abbrev pub ProgramIsOne : Type 0
-ProgramIsOne = (o : Coded) (lists : NameLists) → HasBytes o → IsProgram (program_of o lists)
+ProgramIsOne = (o : Coded) (lists : NameLists) → ObjectIsInOrder o → IsProgram (program_of o lists)
 
 -- The program of every object in order is laid out as rows and walks ask.
 abbrev pub ProgramIsLaidOut : Type 0
