@@ -1,5 +1,5 @@
 -- The warnings that are found at points are those of user access.
-use Rattle.std.proofs.Common.{◌≡◌, ◌↔◌, ℕ, ◌⊎◌, inl, inr, Bool, true, false, ◌||◌, List, Contains, ℤ, pos, negsuc, refl, sym, subst}
+use Rattle.std.proofs.Common.{◌≡◌, ◌↔◌, ℕ, ◌⊎◌, inl, inr, Bool, true, false, ◌||◌, List, Option, Some, None, IsSome, Contains, ℤ, pos, negsuc, refl, sym, subst}
 use Rattle.std.specs.List.{list_any}
 use Rattle.ot_base.specs.declared.place.Place.{Place}
 use Rattle.ot_base.specs.declared.warning.Warning.{Warning}
@@ -115,6 +115,11 @@ module _ (p : Program) (q : ℕ) where
   pub leaves_by_tests : (a b : Bool) → is_way_out (p.role q) ≡ a → list_any (λ (e : Edge). is_sibling e.kind) (edges_of p q) ≡ b → ((a || b) ≡ true) ↔ Leaves p q
   leaves_by_tests a b one two = subst (λ (x : Bool). ((x || b) ≡ true) ↔ Leaves p q) one (subst (λ (x : Bool). ((is_way_out (p.role q) || x) ≡ true) ↔ Leaves p q) two leaves_are)
 
+-- what is there is something
+owned : (owner : Option ℕ) → IsSome owner → (function : ℕ) × (owner ≡ Some function)
+owned (Some function) some = (function, refl)
+owned None some = absurd (let z : ⊥ = cc in z)
+
 -- what is found at all points
 module _ (p : Program) (allowed : Allowances) (parts : GraphParts) (table : AllowanceTable) (tracks : Tracks p allowed parts table) (ways : List Ways) (are : AreReached p allowed ways) where
   abbrev pub IsFoundAtPoint : Warning → Type 0
@@ -127,11 +132,11 @@ module _ (p : Program) (allowed : Allowances) (parts : GraphParts) (table : Allo
   exit_warns q w (inl ((f, leaves), e)) = as_one _ w e (AccessWarns.return_with_access q ((are (visit q true false)).0 f) leaves)
   exit_warns q w (inr ((f, leaves), e)) = as_one _ w e (AccessWarns.return_without_access q ((are (visit q false true)).0 f) leaves)
 
-  operation_warns : (q : ℕ) (w : Warning) → OperationWarns (p.place q) (p.insn q).op (ways_at ways q) w → IsAccessWarning p allowed w
+  operation_warns : (q : ℕ) (w : Warning) → OperationWarns (p.place q) (p.insn q).op (p.owner q) (ways_at ways q) w → IsAccessWarning p allowed w
   operation_warns q w (inl ((op, (home, f)), e)) = as_one _ w e (AccessWarns.on_twice q home ((are (visit q true home)).0 f) op)
-  operation_warns q w (inr (inl ((op, f), e))) = as_one _ w e (AccessWarns.off_twice q ((are (visit q false false)).0 f) op)
+  operation_warns q w (inr (inl ((op, f, some), e))) = let of = owned (p.owner q) some in as_one _ w e (AccessWarns.off_twice q of.0 ((are (visit q false false)).0 f) of.1 op)
   operation_warns q w (inr (inr (inl ((op, (access, f)), e)))) = as_one _ w e (AccessWarns.safe_turns_off q access ((are (visit q access true)).0 f) op)
-  operation_warns q w (inr (inr (inr ((op, (access, home, f)), e)))) = as_one _ w e (AccessWarns.popf q access home ((are (visit q access home)).0 f) op)
+  operation_warns q w (inr (inr (inr ((op, (home, f)), e)))) = as_one _ w e (AccessWarns.popf q home ((are (visit q true home)).0 f) op)
 
   point_warns : (q : ℕ) (w : Warning) → PointWarns p allowed (ways_at ways q) q w → IsAccessWarning p allowed w
   point_warns q w (inl ((home, f), (callee, calls, e))) = as_one _ w e (AccessWarns.call_with_access q home callee ((are (visit q true home)).0 f) calls)
@@ -143,9 +148,9 @@ module _ (p : Program) (allowed : Allowances) (parts : GraphParts) (table : Allo
   access_found _ _ _ _ (AccessWarns.return_with_access q r leaves) = (q, reached_point p allowed parts table tracks q true false r, inr (inl (inl (((are (visit q true false)).1 r, leaves), refl))))
   access_found _ _ _ _ (AccessWarns.return_without_access q r leaves) = (q, reached_point p allowed parts table tracks q false true r, inr (inl (inr (((are (visit q false true)).1 r, leaves), refl))))
   access_found _ _ _ _ (AccessWarns.on_twice q home r op) = (q, reached_point p allowed parts table tracks q true home r, inr (inr (inl ((op, (home, (are (visit q true home)).1 r)), refl))))
-  access_found _ _ _ _ (AccessWarns.off_twice q r op) = (q, reached_point p allowed parts table tracks q false false r, inr (inr (inr (inl ((op, (are (visit q false false)).1 r), refl)))))
+  access_found _ _ _ _ (AccessWarns.off_twice q owner r of op) = (q, reached_point p allowed parts table tracks q false false r, inr (inr (inr (inl ((op, (are (visit q false false)).1 r, subst IsSome (sym of) refl), refl)))))
   access_found _ _ _ _ (AccessWarns.safe_turns_off q access r op) = (q, reached_point p allowed parts table tracks q access true r, inr (inr (inr (inr (inl ((op, (access, (are (visit q access true)).1 r)), refl))))))
-  access_found _ _ _ _ (AccessWarns.popf q access home r op) = (q, reached_point p allowed parts table tracks q access home r, inr (inr (inr (inr (inr ((op, (access, home, (are (visit q access home)).1 r)), refl))))))
+  access_found _ _ _ _ (AccessWarns.popf q home r op) = (q, reached_point p allowed parts table tracks q true home r, inr (inr (inr (inr (inr ((op, (home, (are (visit q true home)).1 r)), refl))))))
 
   pub found_are_warned : (w : Warning) → IsFoundAtPoint w ↔ IsAccessWarning p allowed w
   found_are_warned w = (λ (q, l, h). point_warns q w h, λ h. access_found w.place w.rule w.a w.b h)

@@ -1,15 +1,15 @@
 -- Control is followed from where it begins, and all that is reached is found.
-use Rattle.std.proofs.Common.{◌≡◌, ◌↔◌, inl, inr, ℕ, ◌<◌, Bool, true, false, List, [], ◌∷◌, Option, Some, None, Result, ◌==◌, Contains, refl, sym, ap, subst, arith}
-use Rattle.std.specs.Prelude.{IsSome, OnOk, Ok, Err}
+use Rattle.std.proofs.Common.{◌≡◌, ◌↔◌, inl, inr, ℕ, ◌<◌, Bool, true, false, List, [], ◌∷◌, None, Result, ◌==◌, Contains, refl, sym, ap, subst, arith}
+use Rattle.std.specs.Prelude.{OnOk, Ok, Err}
 use Rattle.std.specs.List.{list_any}
 use Rattle.std.proofs.lemmas.Bool.{eq-eqb, eqb-true}
 use Rattle.machine_defs.specs.declared.flow.Edge.{Edge}
-use Rattle.state_defs.specs.declared.state.HintState.{HintState}
 use Rattle.machine_defs.specs.Program.{Program, IsPoint, entry_points}
 use Rattle.machine_defs.specs.Kept.{edges_of, is_at_entry}
 use Rattle.unwinding_law.proofs.Lists.{cases, find_one, found, from_filter, there}
 use Rattle.machine_defs.specs.Allowances.{Allowances, is_safe, is_safe_owner}
 use Rattle.machine_defs.specs.Access.{Reached}
+use Rattle.machine_defs.specs.Ways.{is_call_hint}
 use Rattle.program_graph.specs.declared.parts.GraphParts.{GraphParts}
 use Rattle.program_check.specs.declared.allowance_table.AllowanceTable.{AllowanceTable}
 use Rattle.program_check.specs.declared.access_ways.Ways.{Ways}
@@ -26,7 +26,8 @@ ok_both (Err e) P Q one two = one
 pub started_still : (p : Program) (allowed : Allowances) (old new : List Ways) (q : ℕ) → ((v : Visit) → IsFound old v → IsFound new v) → IsStarted p allowed old q → IsStarted p allowed new q
 started_still p allowed old new q still started = record {
   entered = λ e runs. still (visit q (is_safe p allowed q) (is_safe p allowed q)) (started.entered e runs);
-  hinted = λ hint h none. still (visit q false false) (started.hinted hint h none);
+  hinted = λ own none. still (visit q false false) (started.hinted own none);
+  called = λ hint none runs. still (visit q false false) (started.called hint none runs);
 }
 
 module _ (p : Program) (allowed : Allowances) (ways : List Ways) where
@@ -65,12 +66,11 @@ module _ (p : Program) (allowed : Allowances) (parts : GraphParts) (table : Allo
       let entry = entry_of q e in
       subst (λ (b : Bool). Reached p allowed q b b) (same_safety q entry.0 entry.1 entry.2) (Reached.entered q entry.0 entry.1 entry.2 runs)
 
-  pub hinted_reached : (q : ℕ) → IsPoint p q → IsSome (p.hint q) × p.owner q ≡ None → IsReached p allowed (visit q false false)
-  hinted_reached q point (some, none) = go (p.hint q) refl some
-    where
-      go : (o : Option HintState) → p.hint q ≡ o → IsSome o → Reached p allowed q false false
-      go (Some hint) e h = Reached.hinted q hint point e none
-      go None e h = absurd (let z : ⊥ = cc in z)
+  pub hinted_reached : (q : ℕ) → IsPoint p q → p.own_hint q ≡ true × p.owner q ≡ None → IsReached p allowed (visit q false false)
+  hinted_reached q point (own, none) = Reached.hinted q point own none
+
+  pub called_reached : (q : ℕ) → IsPoint p q → is_call_hint (p.hint q) ≡ true × p.owner q ≡ None × allowed.lacks_smap q ≡ false → IsReached p allowed (visit q false false)
+  called_reached q point (hint, none, runs) = Reached.called q point hint none runs
 
   is_entered : (q entry : ℕ) → Contains p.entries entry → Contains (entry_points p entry) q → is_at_entry p q ≡ true
   is_entered q entry c d = found (λ x. list_any (λ y. y == q) (entry_points p x)) p.entries entry c (found (λ y. y == q) (entry_points p entry) q d (eq-eqb q q refl))
@@ -84,7 +84,8 @@ module _ (p : Program) (allowed : Allowances) (parts : GraphParts) (table : Allo
   -- control comes to points alone
   pub reached_point : (q : ℕ) (access home : Bool) → Reached p allowed q access home → IsPoint p q
   reached_point _ _ _ (Reached.entered q entry c d runs) = entry_is_point q entry d
-  reached_point _ _ _ (Reached.hinted q hint point h none) = point
+  reached_point _ _ _ (Reached.hinted q point own none) = point
+  reached_point _ _ _ (Reached.called q point hint none runs) = point
   reached_point _ _ _ (Reached.along q access home e r c stays runs) = target_is_point q e (reached_point q access home r) c
 
   module _ (ways : List Ways) (search : IsSearch p allowed ways []) (started : (q : ℕ) → IsPoint p q → IsStarted p allowed ways q) where
@@ -94,7 +95,8 @@ module _ (p : Program) (allowed : Allowances) (parts : GraphParts) (table : Allo
     all_found : (q : ℕ) (access home : Bool) → Reached p allowed q access home → IsFound ways (visit q access home)
     all_found _ _ _ (Reached.entered q entry c d runs) =
         subst (λ (b : Bool). IsFound ways (visit q b b)) (sym (same_safety q entry c d)) ((started q (entry_is_point q entry d)).entered (is_entered q entry c d) runs)
-    all_found _ _ _ (Reached.hinted q hint point h none) = (started q point).hinted hint h none
+    all_found _ _ _ (Reached.hinted q point own none) = (started q point).hinted own none
+    all_found _ _ _ (Reached.called q point hint none runs) = (started q point).called hint none runs
     all_found _ _ _ (Reached.along q access home e r c stays runs) = followed (visit q access home) (all_found q access home r) e c stays runs
 
     -- the search has found all that is reached, and nothing else

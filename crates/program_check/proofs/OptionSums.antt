@@ -28,8 +28,8 @@ module _ (p : Program) (allowed : Allowances) (options : Options) where
 
   by_parts : (place : Place) (rule : ℕ) (a b : ℤ) → IsWarned p allowed options place rule a b → ByParts (numbered_warning place rule a b)
   by_parts place rule a b (of_stack _ _ _ _ h) = inl h
-  by_parts place rule a b (indirect_branch q asked point op unsafe) = inr (inl (q, point, inl ((asked, op, unsafe), refl)))
-  by_parts place rule a b (naked_return q asked point op unsafe) = inr (inl (q, point, inr ((asked, op, unsafe), refl)))
+  by_parts place rule a b (indirect_branch q asked point op unsafe later) = inr (inl (q, point, inl ((asked, op, unsafe, later), refl)))
+  by_parts place rule a b (naked_return q asked point op unsafe later) = inr (inl (q, point, inr ((asked, op, unsafe, later), refl)))
   by_parts place rule a b (of_access _ _ _ _ asked h) = inr (inr (asked, h))
 
   abbrev IsWarnedAt : Warning → Type 0
@@ -37,8 +37,8 @@ module _ (p : Program) (allowed : Allowances) (options : Options) where
 
   from_parts : (w : Warning) → ByParts w → IsWarnedAt w
   from_parts w (inl h) = of_stack w.place w.rule w.a w.b h
-  from_parts w (inr (inl (q, point, inl ((asked, op, unsafe), e)))) = subst (λ (x : Warning). IsWarnedAt x) (sym e) (indirect_branch q asked point op unsafe)
-  from_parts w (inr (inl (q, point, inr ((asked, op, unsafe), e)))) = subst (λ (x : Warning). IsWarnedAt x) (sym e) (naked_return q asked point op unsafe)
+  from_parts w (inr (inl (q, point, inl ((asked, op, unsafe, later), e)))) = subst (λ (x : Warning). IsWarnedAt x) (sym e) (indirect_branch q asked point op unsafe later)
+  from_parts w (inr (inl (q, point, inr ((asked, op, unsafe, later), e)))) = subst (λ (x : Warning). IsWarnedAt x) (sym e) (naked_return q asked point op unsafe later)
   from_parts w (inr (inr (asked, h))) = of_access w.place w.rule w.a w.b asked h
 
   -- the warnings of the stack, and then those that options ask for besides

@@ -67,8 +67,8 @@ module _ (p : Program) (options : Options) where
   nothing_accepts warnings e are place rule a b h = none_is_broken warnings e are place rule a b (always place rule a b h)
 
   -- rule 14 where it is asked for and nothing warns
-  pub unreached_told : (old new : List Warning) → options.unreachable ≡ true → IsAccepted p → Gains old new (λ w. (q : ℕ) × IsFirstUnreached p q × (w ≡ bare_warning (p.place q) 14)) → Gains old new (UnreachedWarns p options)
-  unreached_told old new asked accepted gains = gains_same old new (λ w. (q : ℕ) × IsFirstUnreached p q × (w ≡ bare_warning (p.place q) 14)) (UnreachedWarns p options) gains (λ w. (λ (q, h, e). (q, asked, accepted, h, e), λ (q, asked, accepted, h, e). (q, h, e)))
+  pub unreached_told : (old new : List Warning) → options.unreachable ≡ true → IsAccepted p → Gains old new (λ w. (q : ℕ) × IsFirstUnreached p options q × (w ≡ bare_warning (p.place q) 14)) → Gains old new (UnreachedWarns p options)
+  unreached_told old new asked accepted gains = gains_same old new (λ w. (q : ℕ) × IsFirstUnreached p options q × (w ≡ bare_warning (p.place q) 14)) (UnreachedWarns p options) gains (λ w. (λ (q, h, e). (q, asked, accepted, h, e), λ (q, asked, accepted, h, e). (q, h, e)))
 
   -- where something warns, it has none
   pub unreached_untold : (warnings : List Warning) (x : Warning) → Contains warnings x → AreUnasked p warnings → Gains warnings warnings (UnreachedWarns p options)

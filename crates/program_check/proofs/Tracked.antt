@@ -17,7 +17,7 @@ tracked p allowed parts states table is = record { tells = is.checkable.tells; i
 -- a table that tells what is allowed has something for each point
 pub lengths : (p : Program) (allowed : Allowances) (parts : GraphParts) (table : Option AllowanceTable) → IsTracked p allowed parts table → IfSome table (λ t. HasLengths t (length parts.points.items))
 lengths p allowed parts None is = is.allows
-lengths p allowed parts (Some table) is = (is.allows.branches_long ∙ is.tells.count, is.allows.smap_long ∙ is.tells.count)
+lengths p allowed parts (Some table) is = (is.allows.branches_long ∙ is.tells.count, is.allows.before_long ∙ is.tells.count, is.allows.smap_long ∙ is.tells.count)
 
 pub tracks : (p : Program) (allowed : Allowances) (parts : GraphParts) (table : AllowanceTable) → IsTracked p allowed parts (Some table) → Tracks p allowed parts table
 tracks p allowed parts table is = record { tells = is.tells; is_program = is.is_program; functions = is.functions; allows = is.allows }
@@ -34,6 +34,6 @@ nothing_asked p allowed options none w h =
     told first.0 others.0 others.1 h
   where
     told : options.retpoline ≡ false → options.rethunk ≡ false → options.uaccess ≡ false → AskedWarns p allowed options w → ⊥
-    told x y z (inl (q, point, inl ((asked, op, unsafe), e))) = let k : ⊥ = cc in k
-    told x y z (inl (q, point, inr ((asked, op, unsafe), e))) = let k : ⊥ = cc in k
+    told x y z (inl (q, point, inl ((asked, op, unsafe, later), e))) = let k : ⊥ = cc in k
+    told x y z (inl (q, point, inr ((asked, op, unsafe, later), e))) = let k : ⊥ = cc in k
     told x y z (inr (asked, h)) = let k : ⊥ = cc in k

@@ -14,7 +14,7 @@ AreUnasked p warnings = (w : Warning) → Contains warnings w ↔ Warns p w.plac
 
 -- 14: where it is asked for, and nothing above warns
 abbrev pub UnreachedWarns : Program → Options → Warning → Type 0
-UnreachedWarns p options w = (q : ℕ) × (options.unreachable ≡ true) × IsAccepted p × IsFirstUnreached p q × (w ≡ bare_warning (p.place q) UNREACHABLE_INSTRUCTION)
+UnreachedWarns p options w = (q : ℕ) × (options.unreachable ≡ true) × IsAccepted p × IsFirstUnreached p options q × (w ≡ bare_warning (p.place q) UNREACHABLE_INSTRUCTION)
 
 -- 21: where it is asked for
 abbrev pub UnframedWarns : Program → Options → Warning → Type 0

@@ -23,7 +23,7 @@ IsEnough options (Some table) = Unit {0}
 
 -- the table has something for each of so many points
 abbrev pub HasLengths : AllowanceTable → ℕ → Type 0
-HasLengths table points = (length table.safe_branches.items ≡ points) × (length table.lacking_smap.items ≡ points)
+HasLengths table points = (length table.safe_branches.items ≡ points) × (length table.before_user_space.items ≡ points) × (length table.lacking_smap.items ≡ points)
 
 -- the warnings of the rules 31, 32 and 41 to 47, as far as they are asked for
 abbrev pub AskedWarns : Program → Allowances → Options → Warning → Type 0

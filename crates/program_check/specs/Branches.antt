@@ -8,13 +8,13 @@ use Rattle.machine_defs.specs.Program.{Program, IsPoint}
 use Rattle.machine_defs.specs.Allowances.{Allowances}
 use Rattle.machine_defs.specs.Asked.{is_indirect_branch, is_return}
 
--- an indirect branch that isn't listed as safe, where `retpoline` asks for it
+-- an indirect branch that isn't listed as safe, in code that doesn't run before user space, where `retpoline` asks for it
 abbrev pub IsUnsafeBranch : Program → Allowances → Options → ℕ → Type 0
-IsUnsafeBranch p allowed options q = options.retpoline ≡ true × is_indirect_branch (p.insn q).op ≡ true × allowed.safe_branch q ≡ false
+IsUnsafeBranch p allowed options q = options.retpoline ≡ true × is_indirect_branch (p.insn q).op ≡ true × allowed.safe_branch q ≡ false × allowed.before_user_space q ≡ false
 
 -- a return that isn't, where `rethunk` does
 abbrev pub IsUnsafeReturn : Program → Allowances → Options → ℕ → Type 0
-IsUnsafeReturn p allowed options q = options.rethunk ≡ true × is_return (p.insn q).op ≡ true × allowed.safe_branch q ≡ false
+IsUnsafeReturn p allowed options q = options.rethunk ≡ true × is_return (p.insn q).op ≡ true × allowed.safe_branch q ≡ false × allowed.before_user_space q ≡ false
 
 -- 31, 32: either of them at a point
 abbrev pub PointWarns : Program → Allowances → Options → ℕ → Warning → Type 0

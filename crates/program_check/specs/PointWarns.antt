@@ -1,5 +1,5 @@
 -- The warnings of user access at a point, by the ways in which control comes there.
-use Rattle.std.specs.Prelude.{◌≡◌, ℕ, ◌⊎◌, true, false, Contains, ℤ, pos, negsuc}
+use Rattle.std.specs.Prelude.{◌≡◌, ℕ, ◌⊎◌, true, false, Option, IsSome, Contains, ℤ, pos, negsuc}
 use Rattle.ot_base.specs.declared.place.Place.{Place}
 use Rattle.ot_base.specs.declared.warning.Warning.{Warning}
 use Rattle.ot_base.specs.declared.rules.TheConstants.{CALL_WITH_ACCESS, RETURN_WITH_ACCESS, RETURN_WITHOUT_ACCESS, ACCESS_ON_TWICE, ACCESS_OFF_TWICE, SAFE_FUNCTION_ACCESS_OFF, POPF_WITH_ACCESS_TRACKED}
@@ -15,7 +15,7 @@ use Rattle.machine_defs.specs.Kept.{edges_of}
 use Rattle.machine_defs.specs.Allowances.{Allowances, is_safe}
 use Rattle.machine_defs.specs.AccessRules.{function_number, AccessWarns, CallsUnsafe, Leaves}
 use Rattle.program_check.specs.declared.access_ways.Ways.{Ways}
-use Rattle.program_check.specs.Ways.{IsOn, IsInSafe, IsSome}
+use Rattle.program_check.specs.Ways.{IsOn, IsInSafe}
 
 -- a warning that tells a callee
 abbrev pub callee_warning : Place → ℤ → Warning
@@ -55,20 +55,20 @@ ExitWarns p ways q w =
     (ways.other_on ≡ true × Leaves p q) × w ≡ bare_warning (p.place q) RETURN_WITH_ACCESS
     ⊎ (ways.safe_off ≡ true × Leaves p q) × w ≡ bare_warning (p.place q) RETURN_WITHOUT_ACCESS
 
--- 44 to 47: the operation
-abbrev pub OperationWarns : Place → Op → Ways → Warning → Type 0
-OperationWarns place op ways w =
+-- 44 to 47: the operation, in code of this function
+abbrev pub OperationWarns : Place → Op → Option ℕ → Ways → Warning → Type 0
+OperationWarns place op owner ways w =
     (op ≡ Stac × IsOn ways) × w ≡ bare_warning place ACCESS_ON_TWICE
-    ⊎ ((op ≡ Clac × ways.other_off ≡ true) × w ≡ bare_warning place ACCESS_OFF_TWICE)
+    ⊎ ((op ≡ Clac × ways.other_off ≡ true × IsSome owner) × w ≡ bare_warning place ACCESS_OFF_TWICE)
     ⊎ ((op ≡ Clac × IsInSafe ways) × w ≡ bare_warning place SAFE_FUNCTION_ACCESS_OFF)
-    ⊎ ((op ≡ Popf × IsSome ways) × w ≡ bare_warning place POPF_WITH_ACCESS_TRACKED)
+    ⊎ ((op ≡ Popf × IsOn ways) × w ≡ bare_warning place POPF_WITH_ACCESS_TRACKED)
 
 -- all of them
 abbrev pub PointWarns : Program → Allowances → Ways → ℕ → Warning → Type 0
 PointWarns p allowed ways q w =
     (IsOn ways × CallWarns p allowed q w)
     ⊎ ExitWarns p ways q w
-    ⊎ OperationWarns (p.place q) (p.insn q).op ways w
+    ⊎ OperationWarns (p.place q) (p.insn q).op (p.owner q) ways w
 
 -- the warnings of a program
 abbrev pub IsAccessWarning : Program → Allowances → Warning → Type 0

@@ -1,10 +1,10 @@
 -- A search for the ways in which control comes to points.
-use Rattle.std.specs.Prelude.{◌≡◌, ◌≢◌, ◌⊎◌, ◌↔◌, ℕ, ◌+◌, ◌<◌, Bool, true, false, List, Some, None, Contains, length, sum_by}
+use Rattle.std.specs.Prelude.{◌≡◌, ◌≢◌, ◌⊎◌, ◌↔◌, ℕ, ◌+◌, ◌<◌, Bool, true, false, List, None, Contains, length, sum_by}
 use Rattle.machine_defs.specs.declared.flow.Edge.{Edge}
 use Rattle.machine_defs.specs.declared.flow.EdgeKind.TheVariants.{Sibling}
-use Rattle.state_defs.specs.declared.state.HintState.{HintState}
 use Rattle.machine_defs.specs.Program.{Program}
 use Rattle.machine_defs.specs.Kept.{edges_of, is_at_entry}
+use Rattle.machine_defs.specs.Ways.{is_call_hint}
 use Rattle.machine_defs.specs.Allowances.{Allowances, is_safe}
 use Rattle.machine_defs.specs.Access.{Reached, access_along}
 use Rattle.program_check.specs.declared.access_search.Search.{Search}
@@ -68,7 +68,9 @@ pub record IsSearch (p : Program) (allowed : Allowances) (ways : List Ways) (pen
   pub waiting : (v : Visit) → Contains pending v → IsReached p allowed v
   pub followed : (v : Visit) → IsFound ways v → Contains pending v ⊎ IsFollowed p allowed ways v
 
--- control is found that begins at a point: at an entry, or at a hint in code of no function
+-- Control is found that begins at a point: at an entry; or in code of no function at a point at whose own place a hint stands, or at
+-- which one counts that a call may come to.
 pub record IsStarted (p : Program) (allowed : Allowances) (ways : List Ways) (q : ℕ) : Type 0 where
   pub entered : is_at_entry p q ≡ true → allowed.lacks_smap q ≡ false → IsFound ways (visit q (is_safe p allowed q) (is_safe p allowed q))
-  pub hinted : (hint : HintState) → p.hint q ≡ Some hint → p.owner q ≡ None → IsFound ways (visit q false false)
+  pub hinted : p.own_hint q ≡ true → p.owner q ≡ None → IsFound ways (visit q false false)
+  pub called : is_call_hint (p.hint q) ≡ true → p.owner q ≡ None → allowed.lacks_smap q ≡ false → IsFound ways (visit q false false)

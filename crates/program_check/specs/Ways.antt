@@ -19,15 +19,12 @@ with_way ways false true = record ways { safe_off = true }
 with_way ways true false = record ways { other_on = true }
 with_way ways false false = record ways { other_off = true }
 
--- control comes with user access on, in a safe function, or at all
+-- control comes with user access on, or in a safe function
 abbrev pub IsOn : Ways → Type 0
 IsOn ways = (home : Bool) × (comes ways true home ≡ true)
 
 abbrev pub IsInSafe : Ways → Type 0
 IsInSafe ways = (access : Bool) × (comes ways access true ≡ true)
-
-abbrev pub IsSome : Ways → Type 0
-IsSome ways = (access : Bool) × (home : Bool) × (comes ways access home ≡ true)
 
 -- in how many ways control doesn't come
 abbrev pub one_if_not : Bool → ℕ

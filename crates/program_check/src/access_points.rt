@@ -49,7 +49,7 @@ fn push_point(
 {
     push_calls_on(graph, table, into, ways, n)?;
     push_exits(graph, into, ways, n)?;
-    push_operation(into, graph.place(n), graph.insn(n).op, ways)
+    push_operation(into, graph.place(n), graph.insn(n).op, graph.owner(n), ways)
 }
 
 /// The rules 41 to 47 at each point.
@@ -75,9 +75,9 @@ fn push_points(
 ///   function's symbol, or -1 of an indirect target.
 /// - 42 and 43: a function that isn't safe is left with user access on, or a safe one with it off.
 /// - 44: it is turned on where it is on.
-/// - 45: it is turned off where it is off, in a function that isn't safe.
+/// - 45: it is turned off where it is off, in a function that isn't safe. Code of no function may do so.
 /// - 46: a safe function turns it off.
-/// - 47: a POPF may change it unseen.
+/// - 47: a POPF may turn it off unseen.
 ///
 /// Control is followed from entries, with user access on where the function is safe and else off, and from hints in code
 /// of no function, with user access off. It is followed along all edges but those to other functions, and at sites that

@@ -17,7 +17,7 @@ pub(crate) struct Ways {
 }
 
 impl Ways {
-    ghost use Rattle.program_check.specs.Ways.{comes, no_ways, with_way, IsOn, IsInSafe, IsSome};
+    ghost use Rattle.program_check.specs.Ways.{comes, no_ways, with_way, IsOn, IsInSafe};
 
     /// Control doesn't come there.
     pub(crate) fn none() -> Ways
@@ -69,12 +69,5 @@ impl Ways {
         ensures { IsTrue result ↔ IsInSafe self }
     {
         self.safe_on || self.safe_off
-    }
-
-    /// Whether control comes at all.
-    pub(crate) fn is_some(self) -> bool
-        ensures { IsTrue result ↔ IsSome self }
-    {
-        self.safe_on || self.safe_off || self.other_on || self.other_off
     }
 }

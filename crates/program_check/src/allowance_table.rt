@@ -9,6 +9,8 @@ ghost use Rattle.program_check.specs.Allows.{Allows};
 pub struct AllowanceTable {
     /// For each point, whether an indirect branch or a return may stay there as it is.
     pub safe_branches: Vec<bool>,
+    /// For each point, whether its code runs before user space does.
+    pub before_user_space: Vec<bool>,
     /// For each point, whether a processor with SMAP has other code in its place.
     pub lacking_smap: Vec<bool>,
     /// For each symbol, whether its name is listed as that of a function that may be called with user access on.
@@ -24,6 +26,14 @@ impl AllowanceTable {
         ensures { (allowed : Allowances) (points : ℕ) → Allows allowed self.now points → result ≡ allowed.safe_branch n }
     {
         self.safe_branches[n as usize]
+    }
+
+    /// Whether the code of a point runs before user space does.
+    pub fn is_before_user_space(&self, n: u32) -> bool
+        requires { n < length self.now.before_user_space.items }
+        ensures { (allowed : Allowances) (points : ℕ) → Allows allowed self.now points → result ≡ allowed.before_user_space n }
+    {
+        self.before_user_space[n as usize]
     }
 
     /// Whether a processor with SMAP has other code in place of a point.

@@ -19,6 +19,7 @@ mod reaching;
 mod row;
 mod safe_branches;
 mod safety;
+mod starting;
 mod table;
 mod verdict;
 mod warnings;

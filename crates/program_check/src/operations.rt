@@ -1,8 +1,8 @@
 //! The rules 44 to 47: operations on user access.
 
-ghost use Rattle.std.specs.Prelude.{◌≡◌, ◌↔◌, true, IsTrue, OnOk};
+ghost use Rattle.std.specs.Prelude.{◌≡◌, ◌↔◌, true, IsSome, IsTrue, OnOk};
 ghost use Rattle.stack_rules.specs.Gains.{Gains};
-ghost use Rattle.program_check.specs.Ways.{IsInSafe, IsOn, IsSome};
+ghost use Rattle.program_check.specs.Ways.{IsInSafe, IsOn};
 ghost use Rattle.program_check.specs.PointWarns.{OperationWarns};
 
 use crate::access_listing::push_if;
@@ -20,11 +20,11 @@ fn turns_on_twice(op: Op, ways: Ways) -> bool
     matches!(op, Op::Stac) && ways.is_on()
 }
 
-/// Whether user access is turned off where it is off, in a function that isn't safe.
-fn turns_off_twice(op: Op, ways: Ways) -> bool
-    ensures { IsTrue result ↔ (op ≡ Op.Clac × ways.other_off ≡ true) }
+/// Whether user access is turned off where it is off, in a function that isn't safe. Code of no function may do so.
+fn turns_off_twice(op: Op, owner: Option<u32>, ways: Ways) -> bool
+    ensures { IsTrue result ↔ (op ≡ Op.Clac × ways.other_off ≡ true × IsSome owner) }
 {
-    matches!(op, Op::Clac) && ways.other_off
+    matches!(op, Op::Clac) && ways.other_off && owner.is_some()
 }
 
 /// Whether a safe function turns user access off.
@@ -34,24 +34,30 @@ fn safe_turns_off(op: Op, ways: Ways) -> bool
     matches!(op, Op::Clac) && ways.is_in_safe()
 }
 
-/// Whether control comes to an operation that may change user access unseen.
+/// Whether an operation may turn user access off unseen.
 fn pops_flags(op: Op, ways: Ways) -> bool
-    ensures { IsTrue result ↔ (op ≡ Op.Popf × IsSome ways) }
+    ensures { IsTrue result ↔ (op ≡ Op.Popf × IsOn ways) }
 {
-    matches!(op, Op::Popf) && ways.is_some()
+    matches!(op, Op::Popf) && ways.is_on()
 }
 
-/// The rules 44 to 47 at a point.
+/// The rules 44 to 47 at a point of this function.
 pub(crate) fn push_operation(
     into: &mut Vec<Warning>,
     place: Place,
     op: Op,
+    owner: Option<u32>,
     ways: Ways,
 ) -> Result<(), NoMemory>
-    ensures { OnOk result (Gains into.old.items into.new.items (OperationWarns place op ways)) }
+    ensures { OnOk result (Gains into.old.items into.new.items (OperationWarns place op owner ways)) }
 {
     push_if(into, turns_on_twice(op, ways), place, ACCESS_ON_TWICE)?;
-    push_if(into, turns_off_twice(op, ways), place, ACCESS_OFF_TWICE)?;
+    push_if(
+        into,
+        turns_off_twice(op, owner, ways),
+        place,
+        ACCESS_OFF_TWICE,
+    )?;
     push_if(
         into,
         safe_turns_off(op, ways),

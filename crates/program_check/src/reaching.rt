@@ -1,11 +1,10 @@
 //! How control is followed over a graph.
 
-ghost use Rattle.std.specs.Prelude.{◌≡◌, ◌≢◌, ◌<◌, ◌∷◌, ◌↔◌, ℕ, true, false, None, IfOk, IsSome, IsTrue, OnOk, Contains, length};
+ghost use Rattle.std.specs.Prelude.{◌≡◌, ◌≢◌, ◌<◌, ◌∷◌, ◌↔◌, ℕ, true, false, IfOk, IsTrue, OnOk, Contains, length};
 ghost use Rattle.machine_defs.specs.Program.{IsPoint, Program};
-ghost use Rattle.machine_defs.specs.Kept.{edges_of, is_at_entry};
+ghost use Rattle.machine_defs.specs.Kept.{edges_of};
 ghost use Rattle.machine_defs.specs.Allowances.{Allowances};
 ghost use Rattle.machine_defs.specs.Access.{access_after as access_after_op, access_along as access_along_edge};
-ghost use Rattle.program_graph.specs.Tells.{Tells};
 ghost use Rattle.program_check.specs.Allows.{Allows};
 ghost use Rattle.program_check.specs.Tracks.{Tracks};
 ghost use Rattle.program_check.specs.Search.{AreReached, GoesOn, HasShape, IsFollowedAlong, IsReached, IsSearch, IsStarted};
@@ -14,6 +13,7 @@ use crate::AllowanceTable;
 use crate::access_search::{Search, Visit};
 use crate::access_ways::Ways;
 use crate::safety::is_safe;
+use crate::starting::{is_called, is_entered, is_hinted};
 use machine_defs::{Edge, EdgeKind};
 use operation_defs::Op;
 use ot_base::NoMemory;
@@ -41,23 +41,6 @@ fn access_along(kind: EdgeKind, op: Op, access: bool) -> bool
     }
 }
 
-/// Whether control comes to an entry at a point, where it runs on a processor with SMAP.
-fn is_entered(graph: &Graph, table: &AllowanceTable, n: u32) -> bool
-    requires point { n < length graph.now.parts.points.items }
-    requires table { n < length table.now.lacking_smap.items }
-    ensures { (p : Program) (allowed : Allowances) → Tracks p allowed graph.now.parts table.now → IsTrue result ↔ (is_at_entry p n ≡ true × allowed.lacks_smap n ≡ false) }
-{
-    graph.is_entered(n) && !table.lacks_smap(n)
-}
-
-/// Whether a point has a hint, in code of no function.
-fn is_hinted(graph: &Graph, n: u32) -> bool
-    requires { n < length graph.now.parts.points.items }
-    ensures { (p : Program) → Tells p graph.now.parts → IsTrue result ↔ (IsSome (p.hint n) × p.owner n ≡ None) }
-{
-    graph.hint(n).is_some() && graph.owner(n).is_none()
-}
-
 /// Whether an edge stays in its function, and in the code of a processor with SMAP.
 fn is_followed(table: &AllowanceTable, edge: Edge) -> bool
     requires { edge.to < length table.now.lacking_smap.items }
@@ -66,7 +49,7 @@ fn is_followed(table: &AllowanceTable, edge: Edge) -> bool
     !matches!(edge.kind, EdgeKind::Sibling) && !table.lacks_smap(edge.to)
 }
 
-/// Finds control that begins at a point: where it comes to an entry, and at a hint in code of no function.
+/// Finds control that begins at a point: where it comes to an entry, and at hints in code of no function.
 fn find_start(
     graph: &Graph,
     table: &AllowanceTable,
@@ -92,7 +75,8 @@ fn find_start(
         home: false,
     };
     search.find_if(is_entered(graph, table, n), entered)?;
-    search.find_if(is_hinted(graph, n), hinted)
+    search.find_if(is_hinted(graph, n), hinted)?;
+    search.find_if(is_called(graph, table, n), hinted)
 }
 
 /// Finds all control that begins somewhere.

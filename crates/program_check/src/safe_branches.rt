@@ -30,22 +30,31 @@ fn is_return(op: Op) -> bool
     matches!(op, Op::Ret | Op::RetImm)
 }
 
-/// Whether a point is an indirect branch that isn't listed as safe, where this is asked for.
+/// Whether a point is an indirect branch that isn't listed as safe, in code that doesn't run before user space, where this is
+/// asked for.
 fn is_unsafe_branch(graph: &Graph, table: &AllowanceTable, options: Options, n: u32) -> bool
     requires point { n < length graph.now.parts.points.items }
-    requires table { n < length table.now.safe_branches.items }
+    requires safe { n < length table.now.safe_branches.items }
+    requires before { n < length table.now.before_user_space.items }
     ensures { (p : Program) (allowed : Allowances) → Tells p graph.now.parts → Allows allowed table.now p.count → IsTrue result ↔ IsUnsafeBranch p allowed options n }
 {
-    options.retpoline && is_indirect_branch(graph.insn(n).op) && !table.is_safe_branch(n)
+    options.retpoline
+        && is_indirect_branch(graph.insn(n).op)
+        && !table.is_safe_branch(n)
+        && !table.is_before_user_space(n)
 }
 
-/// Whether a point is a return that isn't listed as safe, where this is asked for.
+/// Whether a point is such a return, where this is asked for.
 fn is_unsafe_return(graph: &Graph, table: &AllowanceTable, options: Options, n: u32) -> bool
     requires point { n < length graph.now.parts.points.items }
-    requires table { n < length table.now.safe_branches.items }
+    requires safe { n < length table.now.safe_branches.items }
+    requires before { n < length table.now.before_user_space.items }
     ensures { (p : Program) (allowed : Allowances) → Tells p graph.now.parts → Allows allowed table.now p.count → IsTrue result ↔ IsUnsafeReturn p allowed options n }
 {
-    options.rethunk && is_return(graph.insn(n).op) && !table.is_safe_branch(n)
+    options.rethunk
+        && is_return(graph.insn(n).op)
+        && !table.is_safe_branch(n)
+        && !table.is_before_user_space(n)
 }
 
 /// Adds a warning that tells no number, where its rule is broken.
@@ -67,7 +76,8 @@ fn push_point(
     n: u32,
 ) -> Result<(), NoMemory>
     requires point { n < length graph.now.parts.points.items }
-    requires table { length table.now.safe_branches.items ≡ length graph.now.parts.points.items }
+    requires safe { length table.now.safe_branches.items ≡ length graph.now.parts.points.items }
+    requires before { length table.now.before_user_space.items ≡ length graph.now.parts.points.items }
     ensures { OnOk result ((p : Program) (allowed : Allowances) → Tells p graph.now.parts → Allows allowed table.now p.count → Gains into.old.items into.new.items (PointWarns p allowed options n)) }
 {
     let place = graph.place(n);
@@ -79,7 +89,7 @@ fn push_point(
 
 /// Adds a program's warnings of rule 31, an indirect call or jump whose place isn't listed as safe, where
 /// `options.retpoline` asks for it, and of rule 32, a return whose place isn't, where `options.rethunk` does. Both are
-/// of any point, reached or not.
+/// of any point, reached or not, whose code doesn't run before user space.
 ///
 /// The graph may tell many programs, and the table what is allowed in each: the warnings are those of any such pair. They
 /// are added in no certain order. Where neither rule is asked for nothing is looked at; else each point is, once.
@@ -93,8 +103,10 @@ pub fn push_branches(
     options: Options,
     warnings: &mut Vec<Warning>,
 ) -> Result<(), NoMemory>
-    requires retpoline { options.retpoline ≡ true → length table.now.safe_branches.items ≡ length graph.now.parts.points.items }
-    requires rethunk { options.rethunk ≡ true → length table.now.safe_branches.items ≡ length graph.now.parts.points.items }
+    requires safe { options.retpoline ≡ true → length table.now.safe_branches.items ≡ length graph.now.parts.points.items }
+    requires before { options.retpoline ≡ true → length table.now.before_user_space.items ≡ length graph.now.parts.points.items }
+    requires safe_returns { options.rethunk ≡ true → length table.now.safe_branches.items ≡ length graph.now.parts.points.items }
+    requires returns_before { options.rethunk ≡ true → length table.now.before_user_space.items ≡ length graph.now.parts.points.items }
     ensures asked { OnOk result ((p : Program) (allowed : Allowances) → Tells p graph.now.parts → Allows allowed table.now p.count → Gains warnings.old.items warnings.new.items (BranchWarns p allowed options)) }
     ensures unasked { options.retpoline ≡ false → options.rethunk ≡ false → IsOk result × warnings.new.items ≡ warnings.old.items }
 {

@@ -51,7 +51,7 @@ fn push_unreached(
     if !warnings.is_empty() {
         return Ok(());
     }
-    push_unreachable(graph, kept, warnings)
+    push_unreachable(graph, kept, options, warnings)
 }
 
 /// Rule 21, where it is asked for.
