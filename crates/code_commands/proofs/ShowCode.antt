@@ -28,7 +28,7 @@ names_points p is enters = record {
 
 pub shown_code : ProgramIsOne → ProgramIsLaidOut → ProgramHasFunctions → (linked o : Coded) (lists : NameLists) (shown : ShownCode) → linked ≡ o → ObjectIsInOrder linked → Tells (program_of linked lists) shown.graph.parts → length shown.kept ≡ length shown.graph.parts.points.items → ((p : Program) → Tells p shown.graph.parts → IsProgram p → HintsStandAtPoints p → AreKeptStates p (at shown.kept)) → IsShownCode (program_of o lists) shown
 shown_code one laid functions linked o lists shown same order tells points kept =
-    let is = one linked lists order.bytes order.special in
+    let is = one linked lists order in
     subst (λ (x : Coded). IsShownCode (program_of x lists) shown) same (record {
       tells = tells;
       named = names_points (program_of linked lists) is (functions linked lists);

@@ -42,7 +42,7 @@ use Rattle.object_check.proofs.OrcSections.{all_other}
 pub ready : (o : Coded) (lists : NameLists) (parts : GraphParts) → ProgramIsOne → ProgramIsLaidOut → PointsAscend → ProgramHasFunctions → IsGraphOf o lists parts → IsReady (program_of o lists) parts
 ready o lists parts one laid ascend functions is = record {
   tells = is.tells;
-  is_program = one o lists is.object.bytes is.object.special;
+  is_program = one o lists is.object;
   laid = laid o lists is.object;
   ascending = ascend o lists;
   functions = functions o lists;
@@ -118,7 +118,7 @@ pub keeps_promises : (o : Coded) (lists : NameLists) (options : Options) (counts
     → IsOutcomeOf (program_of o lists) (allowances_of o lists options) options counts outcome
     → OnAccepted outcome (λ rows. KeepsPromises o lists options)
 keeps_promises o lists options counts (Accepted rows told) frames branches access one functions order found =
-    let is = one o lists order.bytes order.special in
+    let is = one o lists order in
     record {
       frames = λ asked bases placed m run. frames (program_of o lists) (allowances_of o lists options) options bases is placed asked found.0.clean m run;
       branches = λ bases placed m run. branches (program_of o lists) (allowances_of o lists options) options bases is placed found.0.clean m run;

@@ -71,7 +71,7 @@ pub warned_of : ProgramIsOne → ProgramIsLaidOut → (o : Coded) (lists : NameL
     → IsWarnedOf (program_of o lists) parts (at kept) warnings
 warned_of one laid o lists options allowed code parts kept warnings same is are warned = record {
   tells = subst (λ (ps : GraphParts). Tells (program_of o lists) ps) (sym same) is.graph.tells;
-  is_program = one o lists is.graph.object.bytes is.graph.object.special;
+  is_program = one o lists is.graph.object;
   hints = (laid o lists is.graph.object).hint_points;
   kept = are;
   mismatches = λ w known rule. is_mismatch (program_of o lists) allowed options w.place w.rule w.a w.b ((warned.all w).0 known) rule;
