@@ -30,9 +30,9 @@ use Rattle.object_law.proofs.Levels.{and_true}
 use Rattle.object_law.proofs.Numbers.{numbers_are, point_count}
 use Rattle.object_law.proofs.Overlays.{plain_at}
 use Rattle.object_law.proofs.Owners.{arrives_at, entry_is}
-use Rattle.object_law.proofs.PointKinds.{point_is}
+use Rattle.object_law.proofs.PointKinds.{point_is, point_listed}
 use Rattle.object_law.proofs.EdgesEnter.{edges_enter}
-use Rattle.object_law.proofs.LaidOut.{one_number, point_listed}
+use Rattle.object_law.proofs.LaidOut.{one_number}
 use Rattle.object_law.proofs.Starts.{address_at, arrives_at_start, arrives_plain, site_found}
 
 -- an instruction of a text stands at one of its places

@@ -94,11 +94,11 @@ next_within o point next is = by_plain (is_plain point) refl is
 -- those taken from the front of a list are no more than it has
 taken_within : {X : Type 0} (p : X → Bool) (xs : List X) → length (take_while p xs) ≤ length xs
 taken_within p [] = omega arith
-taken_within p (x ∷ xs) = go (p x)
+taken_within p (x ∷ xs) = go (p x) (taken_within p xs)
   where
-    go : (b : Bool) → length (cond b (x ∷ take_while p xs) []) ≤ suc (length xs)
-    go true = let rest = taken_within p xs in omega (arith, rest)
-    go false = omega arith
+    go : (b : Bool) → length (take_while p xs) ≤ length xs → length (cond b (x ∷ take_while p xs) []) ≤ suc (length xs)
+    go true rest = omega (arith, rest)
+    go false rest = omega arith
 
 -- what is left of a run in a site ends in it
 run_within : (o : Coded) (place : Place) (site : Site) → run_from o place site ≤ site.start.off + site.len - place.off
