@@ -1,8 +1,9 @@
 -- How control goes on from the points of an object in order, inside replacements and behind points.
 use Rattle.std.proofs.Common.{◌≡◌, ℕ, suc, ◌+◌, ◌-◌, ◌<◌, ◌≤◌, ◌⊎◌, List, [], ◌∷◌, length, Bool, true, false, not, ◌&&◌, cond, Option, Some, None, Contains, refl, sym, ap, ◌∙◌, subst, inl, inr, arith}
-use Rattle.std.specs.Prelude.{find, option_and_then, ◌==◌}
+use Rattle.std.specs.Prelude.{option_and_then, ◌==◌}
 use Rattle.std.specs.List.{range_with_len, take_while}
 use Rattle.std.proofs.lemmas.List.FromFn.{length-range_with_len}
+use Rattle.std.proofs.lemmas.List.Sums.{take_while-cons}
 use Rattle.std.proofs.lemmas.Bool.{cases_lt, eqb-true}
 use Rattle.ot_base.specs.NameLists.{NameLists}
 use Rattle.ot_base.specs.declared.place.Place.{Place}
@@ -94,7 +95,7 @@ next_within o point next is = by_plain (is_plain point) refl is
 -- those taken from the front of a list are no more than it has
 taken_within : {X : Type 0} (p : X → Bool) (xs : List X) → length (take_while p xs) ≤ length xs
 taken_within p [] = omega arith
-taken_within p (x ∷ xs) = go (p x) (taken_within p xs)
+taken_within p (x ∷ xs) = subst (λ taken. length taken ≤ suc (length xs)) (sym (take_while-cons p x xs)) (go (p x) (taken_within p xs))
   where
     go : (b : Bool) → length (take_while p xs) ≤ length xs → length (cond b (x ∷ take_while p xs) []) ≤ suc (length xs)
     go true rest = omega (arith, rest)
@@ -203,7 +204,10 @@ module _ (o : Coded) (lists : NameLists) (order : ObjectIsInOrder o) where
       → in_site site (behind_plain_place o (point_at o q).place (decoded_insn o (point_at o q)) (site_holding o (point_at o q).place)) ≡ true
       → (in_site site (address_at o q) ≡ true) ⊎ (site.start ≡ behind_plain_place o (point_at o q).place (decoded_insn o (point_at o q)) (site_holding o (point_at o q).place))
   unfolding site_holding
-  behind_any q site here is listed inside = by_site (finds (λ s. in_site s place) (sites_of o))
+  behind_any q site here is listed inside = elim (finds (λ s. in_site s place) (sites_of o)) [
+    | inl none ↦ subst Goal (sym none.0) (λ inside. behind_plain q site here is listed (in_site_is site (behind place insn.len) inside)) inside
+    | inr one ↦ subst Goal (sym one.1) (λ inside. by_nop one.0 one.2 one.3 (is_short_nop insn) inside) inside
+  ]
     where
       place : Place
       place = (point_at o q).place
@@ -220,11 +224,6 @@ module _ (o : Coded) (lists : NameLists) (order : ObjectIsInOrder o) where
       by_nop own own_listed holds true inside =
           behind_run q (run_from o place own) site own is listed own_listed (in_site_is own place holds) (run_within o place own) (in_site_is site (behind place (run_from o place own)) inside)
       by_nop own own_listed holds false inside = behind_plain q site here is listed (in_site_is site (behind place insn.len) inside)
-
-      by_site : (find (λ s. in_site s place) (sites_of o) ≡ None) ⊎ ((own : Site) × (find (λ s. in_site s place) (sites_of o) ≡ Some own) × Contains (sites_of o) own × (in_site own place ≡ true))
-          → (in_site site (address_at o q) ≡ true) ⊎ (site.start ≡ behind_plain_place o place insn (find (λ s. in_site s place) (sites_of o)))
-      by_site (inl none) = subst Goal (sym none) (λ inside. behind_plain q site here is listed (in_site_is site (behind place insn.len) inside)) inside
-      by_site (inr one) = subst Goal (sym one.1) (λ inside. by_nop one.0 one.2 one.3 (is_short_nop insn) inside) inside
 
   -- where control comes behind a point into a site, it was in that site or comes to its start
   pub comes_behind : (q : ℕ) (site : Site) → q < point_count o → Contains (sites_of o) site → in_site site (place_behind o (point_at o q)) ≡ true → (in_site site (address_at o q) ≡ true) ⊎ (site.start ≡ place_behind o (point_at o q))
