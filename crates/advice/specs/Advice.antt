@@ -8,6 +8,7 @@ use Rattle.cli_words.specs.Grammar.{meaning}
 use Rattle.cli_words.specs.Words.{Word}
 use Rattle.ot_base.specs.PlaceText.{escaped}
 use Rattle.advice.specs.KnownWords.{command_words, options_behind, topic_words}
+use Rattle.advice.specs.MissingNames.{missing_of, usage_behind}
 use Rattle.advice.specs.Nearest.{IsNearest}
 
 -- what of a word is compared with options: all of it, or as far as its first `=`, with it
@@ -40,14 +41,23 @@ asked_for None = codes ";"
 abbrev pub usage_advice : UsageKind → (word near : Option (List ℕ)) → List ℕ
 usage_advice kind word near = codes "objtool: " ++ kind_text kind ++ quoted word ++ asked_for near ++ codes " objtool --help lists the commands"
 
--- a fault of the words is told: with the word at fault, where there is one, and with what it may stand for
+-- the line on a name or a number that is missing: what it is called, and how the command is used
+abbrev pub missing_advice : (name usage : List ℕ) → List ℕ
+missing_advice name usage = codes "objtool: " ++ name ++ codes " is missing: " ++ usage
+
+-- the line on words at fault: on what is missing, or on what is wrong with which word
+abbrev pub fault_advice : (missing : Option Word) → (usage : List ℕ) → UsageKind → (word near : Option (List ℕ)) → List ℕ
+fault_advice (Some name) usage kind word near = missing_advice name usage
+fault_advice None usage kind word near = usage_advice kind word near
+
+-- a fault of the words is told: with the name that is missing, or with the word at fault and what it may stand for
 pub record TellsFault (words : List Word) (line : List ℕ) : Type 0 where
   pub at : ℕ
   pub kind : UsageKind
   pub near : Option Word
   pub fault : meaning words ≡ Err (at, kind)
   pub meant : IsMeantOf kind (slice_index_or words 0 []) (slice_get words at) near
-  pub told : line ≡ usage_advice kind (slice_get words at) near
+  pub told : line ≡ fault_advice (missing_of kind words) (usage_behind (slice_index_or words 0 [])) kind (slice_get words at) near
 
 -- the line on words, which tells their fault; without one they mean a command
 abbrev pub IsUsageLine : List Word → Option (List ℕ) → Type 0

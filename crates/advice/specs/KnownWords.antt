@@ -1,10 +1,11 @@
 -- The words that a word at fault may stand for.
-use Rattle.std.specs.Prelude.{◌≡◌, List, [], ◌∷◌, map, codes, is_some, IsTrue, bytes_eq}
-use Rattle.std.specs.List.{list_all, list_any}
+use Rattle.std.specs.Prelude.{◌≡◌, ◌==◌, Bool, List, [], ◌∷◌, map, codes, is_some, bytes_eq, if◌then◌else◌}
+use Rattle.std.specs.List.{list_any}
 use Rattle.std.specs.Option.{option_map_or}
 use Rattle.cli_words.specs.declared.word.CommandWord.{CommandWord}
 use Rattle.cli_words.specs.declared.word.CommandWord.TheVariants as the
-use Rattle.cli_words.specs.Words.{Word, command_named, is_option_of}
+use Rattle.cli_words.specs.Words.{Word, command_named, is_option_of, value_after}
+use Rattle.explanations.specs.Topics.{is_topic}
 use Rattle.explanations.specs.Volumes.{entries}
 
 -- the words of all commands
@@ -28,9 +29,13 @@ option_words the.Entry = codes "--noinstr" ∷ codes "--sls" ∷ codes "--ibt" �
 option_words the.Show = codes "--function=" ∷ codes "--all-opcodes" ∷ codes "--names=" ∷ []
 option_words _ = []
 
--- each of them is an option of that command
+-- a word gives such an option: it is spelled so, or, where the option has a value, begins so
+abbrev pub gives_option : (word known : Word) → Bool
+gives_option word known = if list_any (λ byte. byte == 61) known then is_some (value_after known word) else bytes_eq word known
+
+-- a word is an option of a command where it gives one of these
 abbrev pub AreOptions : Type 0
-AreOptions = (command : CommandWord) → IsTrue (list_all (is_option_of command) (option_words command))
+AreOptions = (command : CommandWord) (word : Word) → is_option_of command word ≡ list_any (gives_option word) (option_words command)
 
 -- the options of the command that a first word asks for
 abbrev pub options_behind : Word → List Word
@@ -39,3 +44,7 @@ options_behind first = option_map_or option_words (command_named first) []
 -- all topics
 abbrev pub topic_words : List Word
 topic_words = map (λ e. e.topic) entries
+
+-- a word is a topic where it is one of these
+abbrev pub AreTopics : Type 0
+AreTopics = (word : Word) → is_topic word ≡ list_any (λ known. bytes_eq known word) topic_words

@@ -1,3 +1,4 @@
 pub mod Advice
 pub mod KnownWords
+pub mod MissingNames
 pub mod Nearest

@@ -2,7 +2,7 @@
 
 ghost use Rattle.std.specs.Prelude.{◌≡◌, ◌==◌, IfOk, map};
 ghost use Rattle.std.specs.List.{before_first};
-ghost use Rattle.advice.specs.KnownWords.{AreCommands, AreOptions, command_words, options_behind, topic_words};
+ghost use Rattle.advice.specs.KnownWords.{AreCommands, AreOptions, AreTopics, command_words, options_behind, topic_words};
 
 use explanations::{is_topic, topics};
 use std::alloc::{AllocError, Global};
@@ -56,7 +56,8 @@ fn before_blank(line: &str) -> &str
 
 /// The topics that `explain` lists: all topics, and no other words.
 pub(crate) fn topic_words(alloc: Global) -> Result<Vec<&'static str>, AllocError>
-    ensures { IfOk result (λ words. map (λ word. word.now) words.items ≡ topic_words) }
+    ensures words { IfOk result (λ words. map (λ word. word.now) words.items ≡ topic_words) }
+    ensures topics { AreTopics }
 {
     topics()
         .lines()

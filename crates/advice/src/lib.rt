@@ -3,6 +3,7 @@
 
 mod known_words;
 mod lines;
+mod missing_names;
 mod nearest;
 
 pub use lines::{refusal_line, usage_line};

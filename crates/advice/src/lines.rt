@@ -2,9 +2,10 @@
 
 ghost use Rattle.std.specs.Prelude.{◌≡◌, [], IfOk, Some, map, option_map, slice_get, slice_index_or, string_bytes};
 ghost use Rattle.explanations.specs.Refusals.{topic_of};
-ghost use Rattle.advice.specs.Advice.{IsMeant, IsMeantOf, IsUsageLine, asked_for, option_part, quoted, refusal_advice, usage_advice};
+ghost use Rattle.advice.specs.Advice.{IsMeant, IsMeantOf, IsUsageLine, asked_for, missing_advice, option_part, quoted, refusal_advice, usage_advice};
 
 use crate::known_words::{command_words, option_words, topic_words};
+use crate::missing_names::{missing_of, usage};
 use crate::nearest::nearest;
 use cli_words::{UsageFault, UsageKind, judge_words};
 use explanations::topic_of_refusal;
@@ -61,6 +62,21 @@ impl fmt::Display for UsageAdvice<'_> {
             Quoted(self.word),
             AskedFor(self.near)
         )
+    }
+}
+
+/// The line on a name or a number that is missing: what it is called, and how the command is used.
+#[derive(Drop)]
+struct MissingAdvice {
+    name: &'static str,
+    usage: &'static str,
+}
+
+impl fmt::Display for MissingAdvice {
+    ghost output = { λ a. Some (missing_advice a.name.now a.usage.now) };
+
+    fn fmt<W: fmt::Write>(&self, f: &mut fmt::Formatter<W>) -> fmt::Result {
+        write!(f, "objtool: {} is missing: {}", self.name, self.usage)
     }
 }
 
@@ -125,8 +141,8 @@ fn word_at(words: &[String], at: usize) -> Option<&str>
     }
 }
 
-/// The line that helps with words at fault: what is wrong with which word, and the known word that is near it, where one is.
-/// There is none where the words mean a command. An error is want of memory.
+/// The line that helps with words at fault: what is missing and how the command is used; or what is wrong with which word, and
+/// the known word that is near it, where one is. There is none where the words mean a command. An error is want of memory.
 pub fn usage_line(alloc: Global, words: &[String]) -> Result<Option<String>, AllocError>
     ensures { IfOk result (λ said. IsUsageLine (map string_bytes words.now) (option_map string_bytes said)) }
 {
@@ -134,8 +150,13 @@ pub fn usage_line(alloc: Global, words: &[String]) -> Result<Option<String>, All
         Ok(()) => Ok(None),
         Err(UsageFault::NoMemory) => Err(AllocError),
         Err(UsageFault::At { word: at, kind }) => {
+            let first = first_word(words);
+            if let Some(name) = missing_of(kind, words) {
+                let usage = usage(first);
+                return Ok(Some(format!(in alloc; "{}", MissingAdvice { name, usage })?));
+            }
             let word = word_at(words, at as usize);
-            let near = near_word(alloc, kind, first_word(words), word)?;
+            let near = near_word(alloc, kind, first, word)?;
             Ok(Some(format!(in alloc; "{}", UsageAdvice { kind, word, near })?))
         }
     }
