@@ -12,7 +12,8 @@
 /// counts from the instruction's end.
 #[derive(Clone, Copy, PartialEq, Eq)]
 pub enum Op {
-    /// None of the others: writes neither rsp nor rbp, may store, and goes on.
+    /// None of the others: writes neither rsp nor rbp, may store, and goes on. An emulated instruction, behind a
+    /// hypervisor's mark, is one too.
     Plain,
     /// Does nothing: NOP (90 without REX.B, and 0F 1F), and the padding of a replacement.
     Nop,
@@ -95,9 +96,10 @@ pub enum Op {
     /// of whoever takes an IRET for one: the decoder never does.
     IretNext,
     /// A way out of the code by a far branch or the system: far CALL and JMP (FF /3 and /5), far RET
-    /// (CA, CB), IRET without REX.W, SYSCALL, SYSRET, SYSENTER and SYSEXIT.
+    /// (CA, CB), IRET without REX.W, SYSCALL, SYSRET, SYSENTER and SYSEXIT; by the whole opcode map ERETU, ERETS,
+    /// UIRET, ENCLU and RSM too.
     Switch,
-    /// An undefined instruction on purpose: UD2 and UD1 (0F 0B, 0F B9).
+    /// An undefined instruction on purpose: UD2 and UD1 (0F 0B, 0F B9), and by the whole opcode map UD0 (0F FF).
     Ud2,
     /// A breakpoint (CC).
     Int3,

@@ -28,7 +28,7 @@ is_at_least (AtLeast n) = true
 abbrev pub initial : State
 initial = Live (Known (pos 8)) None Same
 
--- the kind of hint that ended the stack, if one did
+-- how the stack has ended, if it has
 abbrev pub ended_by : State → Option EndKind
 ended_by (Live depth fp bp) = None
 ended_by (Ended kind) = Some kind

@@ -19,7 +19,7 @@ pub enum BpHome {
     Saved(i64),
 }
 
-/// How a hint ends the stack.
+/// How the stack has ended: as a hint says, or, as `Undefined`, where loose code has lost it.
 #[derive(Clone, Copy, PartialEq, Eq, PartialOrd, Ord)]
 pub enum EndKind {
     /// Nothing is known of the frame (`UNWIND_HINT_UNDEFINED`). A walk stops there and says so.
@@ -41,7 +41,7 @@ pub enum State {
         fp: Option<i64>,
         bp: BpHome,
     },
-    /// A hint ended the stack: nothing is known, and nothing asked, of registers and memory.
+    /// A hint ended the stack, or loose code lost it: nothing is known, and nothing asked, of registers and memory.
     Ended(EndKind),
     /// In an interrupt frame, whose saved registers begin `depth` bytes above rsp.
     ///

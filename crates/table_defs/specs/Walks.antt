@@ -22,7 +22,7 @@ abbrev pub walk_frame : WalkedFrame → Frame
 walk_frame f = record { ra = f.ra; cfa = f.cfa; bp = f.bp }
 
 -- The stop that belongs to how the frames end: outside the program, where they go down to the outermost one;
--- else that of the hint that ended the stack.
+-- else as a hint ended the stack, or as loose code lost it.
 abbrev pub StopsAs : Option EndKind → Stop → Type 0
 StopsAs None stop = stop ≡ Outside
 StopsAs (Some kind.EndOfStack) stop = stop ≡ EndOfStack

@@ -80,7 +80,7 @@ module _ (keeps : MoveIsConsistent) (p : Program) (bases : Bases) (rows : List P
   abbrev WalksAt : List Frame → Type 0
   WalksAt frames = (q : ℕ) (state : State) (next : Bool) (ip rsp rbp : ℕ) → Stands q state rsp rbp frames → LooksAt p bases next ip q → Walked next ip rsp rbp (ended_by state) frames
 
-  -- where a hint has ended the stack the walk stops
+  -- where the stack has ended the walk stops
   ended : (end : EndKind) (frames : List Frame) (next : Bool) (ip rsp rbp : ℕ) → is_inside ranges (lookup_address next ip) ≡ true → TellsState (Ended end) (find_row rows ranges (lookup_address next ip)) → Walked next ip rsp rbp (Some end) frames
   ended kind.Undefined frames next ip rsp rbp in_text (inl e) = (Undefined, stops in_text e refl, inl refl)
   ended kind.Undefined frames next ip rsp rbp in_text (inr (e, none)) = (NoRow, no_row in_text none, inr refl)
