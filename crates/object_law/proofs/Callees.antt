@@ -1,5 +1,5 @@
 -- What calls inside an object go to: its entries, and code of no function that may be called.
-use Rattle.std.proofs.Common.{◌≡◌, ℕ, ◌&&◌, ◌||◌, not, ◌⊎◌, Bool, true, false, Option, Some, None, Contains, refl, sym, ap, ◌∙◌, subst, inl, inr}
+use Rattle.std.proofs.Common.{◌≡◌, ℕ, ◌&&◌, not, ◌⊎◌, true, false, Option, Some, None, Contains, refl, sym, ap, ◌∙◌, subst, inl, inr}
 use Rattle.std.specs.Prelude.{is_none, is_some}
 use Rattle.std.specs.List.{list_all}
 use Rattle.std.proofs.lemmas.Bool.{false≢true, not-false, or_cases}
@@ -8,13 +8,13 @@ use Rattle.ot_base.specs.NameLists.{NameLists}
 use Rattle.ot_base.specs.Places.{same_place}
 use Rattle.flow_defs.specs.Coded.{Coded}
 use Rattle.machine_defs.specs.declared.flow.Role.TheVariants as roles
-use Rattle.machine_defs.specs.Program.{IsPoint, Site, in_site, entry_points}
+use Rattle.machine_defs.specs.Program.{IsPoint, Site, in_site}
 use Rattle.machine_defs.specs.IsProgram.{IsCallee}
 use Rattle.machine_defs.specs.Ways.{MayCall, is_call_hint}
 use Rattle.alternatives.specs.declared.point.Point.{Point}
 use Rattle.unwinding_law.proofs.Lists.{each_passes}
 use Rattle.table_law.proofs.Equal.{same_place_is}
-use Rattle.flow_defs.specs.Code.{plain_point, point_at}
+use Rattle.flow_defs.specs.Code.{point_at}
 use Rattle.flow_defs.specs.Owners.{is_unchecked_point, owner_of_point}
 use Rattle.flow_defs.specs.Arrival.{arrival_points, arrive, hint_of}
 use Rattle.flow_defs.specs.Sites.{is_past_start, site_holding, sites_of}

@@ -1,6 +1,6 @@
 -- Calls and tail calls inside an object go to its entries.
 use Rattle.std.proofs.Common.{◌≡◌, ℕ, ◌<◌, ◌⊎◌, Bool, true, false, cond, List, [], ◌∷◌, Option, Some, None, length, get_or, Contains, refl, sym, ap, ◌∙◌, arith, subst, inl, inr}
-use Rattle.std.specs.Prelude.{◌≢◌, filter, is_none, unwrap_or}
+use Rattle.std.specs.Prelude.{◌≢◌, filter, unwrap_or}
 use Rattle.std.specs.List.{position_or_len}
 use Rattle.std.proofs.lemmas.Bool.{and_from, cases_lt, eq-eqb, false≢true, lt-ltb, or_cases}
 use Rattle.std.proofs.lemmas.List.Sums.{fails_before_first}
@@ -16,16 +16,13 @@ use Rattle.machine_defs.specs.declared.flow.EdgeKind.{EdgeKind}
 use Rattle.machine_defs.specs.declared.flow.EdgeKind.TheVariants.{Taken, Sibling}
 use Rattle.machine_defs.specs.declared.flow.Role.{Role}
 use Rattle.machine_defs.specs.declared.flow.Role.TheVariants as roles
-use Rattle.machine_defs.specs.Program.{IsPoint, Site, edge, entry_points, in_site}
-use Rattle.machine_defs.specs.IsProgram.{IsCallee}
-use Rattle.machine_defs.specs.Ways.{MayCall, is_call_hint}
-use Rattle.symbols_relocs.specs.Parts.{owner_at}
+use Rattle.machine_defs.specs.Program.{IsPoint, edge, entry_points}
 use Rattle.alternatives.specs.declared.point.Point.{Point}
 use Rattle.alternatives.specs.Points.{points_of}
 use Rattle.alternatives.proofs.Ascending.{contains_in}
 use Rattle.alternatives.proofs.Listing.{points_complete}
 use Rattle.unwinding_law.proofs.Lists.{in_filter}
-use Rattle.table_law.proofs.Lists.{finds, in_filter_map}
+use Rattle.table_law.proofs.Lists.{in_filter_map}
 use Rattle.flow_defs.specs.declared.destination.Crossing.{Crossing}
 use Rattle.flow_defs.specs.declared.destination.Crossing.TheVariants.{MayCross}
 use Rattle.flow_defs.specs.declared.destination.Destination.{Destination}
@@ -34,13 +31,11 @@ use Rattle.flow_defs.specs.declared.destination.Way.{Way}
 use Rattle.flow_defs.specs.declared.destination.Way.TheVariants as ways
 use Rattle.flow_defs.specs.Code.{alternatives_of, number_of, plain_point, point_at, points_of_object, same_point, texts_of}
 use Rattle.flow_defs.specs.Owners.{is_entry, owner_of_point, unchecked_start}
-use Rattle.flow_defs.specs.Arrival.{arrive, hint_of, insn_of_object, is_padding}
-use Rattle.flow_defs.specs.Sites.{site_holding, sites_of}
+use Rattle.flow_defs.specs.Arrival.{arrive, insn_of_object, is_padding}
 use Rattle.flow_defs.specs.Targets.{destination_of}
 use Rattle.flow_defs.specs.Ways.{jump_way}
 use Rattle.flow_defs.specs.Roles.{call_by, call_of_gate, call_role, entry_call, gate_called, is_called, jump_by_table, jump_by_way, jump_role, may_call, place_call, plain_number, returns_through, role_by, role_of, role_through, table_of_point}
 use Rattle.flow_defs.specs.Program.{entries_of, graph_of, is_entry_point, program_of, returning_graph}
-use Rattle.object_law.proofs.Levels.{and_true}
 use Rattle.object_law.proofs.Numbers.{numbered, point_count}
 use Rattle.object_law.proofs.Edges.{Comes, edge_comes}
 use Rattle.object_law.proofs.Checked.{Leads, Ways, listed_leads, way_leads}

@@ -1,5 +1,5 @@
 -- The hints of an object whose special sections are in order set consistent states.
-use Rattle.std.proofs.Common.{◌≡◌, ℕ, Bool, true, false, not, ◌&&◌, cond, List, [], ◌∷◌, ◌++◌, ◌+◌, ◌-◌, ◌*◌, ◌<◌, length, reverse, Option, Some, None, Contains, refl, sym, ap, ◌∙◌, arith, subst, inl, inr, pos, negsuc, ℤ}
+use Rattle.std.proofs.Common.{◌≡◌, ℕ, Bool, true, false, not, ◌&&◌, cond, List, [], ◌∷◌, ◌++◌, ◌-◌, ◌*◌, ◌<◌, length, reverse, Option, Some, None, Contains, refl, sym, ap, ◌∙◌, arith, subst, inl, inr, pos, negsuc, ℤ}
 use Rattle.std.specs.Prelude.{flat_map, int_lt, is_some, nat_lt, option_and_then, ◌==◌, ◌≤ℤ◌}
 use Rattle.std.specs.List.{range_with_len}
 use Rattle.std.specs.Option.{option_or}

@@ -1,5 +1,4 @@
 -- The program of an object in order is one, as the laws ask.
-use Rattle.std.proofs.Common.{ap}
 use Rattle.ot_base.specs.NameLists.{NameLists}
 use Rattle.flow_defs.specs.Coded.{Coded}
 use Rattle.machine_defs.specs.IsProgram.{IsProgram}

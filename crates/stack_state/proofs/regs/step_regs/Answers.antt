@@ -1,4 +1,4 @@
-use Rattle.std.proofs.Common.{rules, ◌≡◌}
+use Rattle.std.proofs.Common.{rules}
 use Rattle.stack_state.proofs.RegsStay.{regs_stay}
 use Rattle.stack_state.proofs.regs.step_regs.Goals as goal
 
