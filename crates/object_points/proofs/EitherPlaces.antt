@@ -1,5 +1,5 @@
 -- The places of hints that are a SAVE or a RESTORE.
-use Rattle.std.proofs.Common.{◌≡◌, ℕ, Bool, true, false, cond, eqb, ◌&&◌, List, [], ◌∷◌, find, reverse, Option, Some, None, Contains, inl, inr, refl, sym, ap, ◌∙◌, arith}
+use Rattle.std.proofs.Common.{◌≡◌, ℕ, ◌-◌, ◌<◌, Bool, true, false, not, cond, eqb, ◌&&◌, ◌||◌, length, List, [], ◌∷◌, find, reverse, Option, Some, None, Contains, inl, inr, refl, sym, ap, ◌∙◌, arith}
 use Rattle.std.specs.Prelude.{filter_map, option_and_then, if◌then◌else◌}
 use Rattle.std.specs.List.{list_any}
 use Rattle.std.proofs.lemmas.Bool.{cases_Bool, false≢true}
@@ -11,7 +11,22 @@ use Rattle.ot_base.specs.declared.place.Place.{Place}
 use Rattle.ot_base.specs.Places.{same_place}
 use Rattle.special_sections.specs.declared.entries.HintEntry.{HintEntry}
 use Rattle.special_sections.specs.HintStates.{hint_at, hint_state}
-use Rattle.object_points.specs.Hinted.{is_either, place_of_either}
+use Rattle.std.specs.Option.{option_or}
+use Rattle.std.proofs.lemmas.List.{get_or_default}
+use Rattle.state_defs.specs.declared.state.HintState.{HintState}
+use Rattle.state_defs.specs.declared.state.HintState.TheVariants.{Set, Save, Restore}
+use Rattle.special_sections.specs.declared.entries.AltEntry.{AltEntry}
+use Rattle.special_sections.specs.Special.{special_of}
+use Rattle.alternatives.specs.Originals.{entry_at, no_entry}
+use Rattle.alternatives.specs.Points.{entry_of}
+use Rattle.alternatives.proofs.Opened.{variant_inside}
+use Rattle.flow_defs.specs.Coded.{Coded}
+use Rattle.flow_defs.specs.Arrival.{for_replacements, hint_of, own_hint_of, start_hint_of}
+use Rattle.flow_defs.specs.Decoded.{is_padding}
+use Rattle.flow_defs.specs.Code.{alternatives_of, point_at, points_of_object, texts_of}
+use Rattle.flow_defs.specs.Hints.{is_restore}
+use Rattle.object_points.proofs.Points.{numbered_point}
+use Rattle.object_points.specs.Hinted.{is_either, place_of_either, place_of_restored}
 use Rattle.object_points.specs.Places.{is_among}
 use Rattle.object_points.proofs.ListedHints.{in-made}
 
@@ -52,3 +67,67 @@ none_elsewhere hints place other =
       ]
     ] in
     go (find here (reverse hints)) refl
+
+-- ---- of points
+neither_unless : (b : Bool) (hint : Option HintState) → is_either hint ≡ false → is_either (cond b None hint) ≡ false
+neither_unless true hint none = refl
+neither_unless false hint none = none
+
+started : (hint : Option HintState) → is_either (for_replacements hint) ≡ true → is_restore hint ≡ true
+started None h = absurd (false≢true h)
+started (Some Save) h = absurd (false≢true h)
+started (Some Restore) h = refl
+started (Some (Set s)) h = absurd (false≢true h)
+
+either_or : (own start : Option HintState) → is_either own ≡ false → is_either start ≡ false → is_either (option_or own start) ≡ false
+either_or None start a b = b
+either_or (Some hint) start a b = a
+
+true_parts : (a b : Bool) → cond (not a && b) true false ≡ true → (a ≡ false) × (b ≡ true)
+true_parts true b h = absurd (false≢true h)
+true_parts false true h = (refl, refl)
+true_parts false false h = absurd (false≢true h)
+
+pub no_other : (a b : Bool) → (a || b) ≡ false → (a ≡ false) × (b ≡ false)
+no_other false false h = (refl, refl)
+no_other false true h = absurd (false≢true (sym h))
+no_other true b h = absurd (false≢true (sym h))
+
+positive : (v : ℕ) → eqb v 0 ≡ false → 0 < v
+positive v h = grind (arith, nat_tests)
+
+contained : (es : List AltEntry) (k : ℕ) → k < length es → Contains es (entry_at es k)
+contained es k low = (k, low, get_or_default es k (entry_at es k) no_entry low)
+
+module _ (o : Coded) (n : ℕ) (inside : n < length (points_of_object o)) where
+  entry : AltEntry
+  entry = entry_of (alternatives_of o) (point_at o n).variant
+
+  -- the point's start hint is none where its replacement doesn't begin at one of the places
+  start_neither : is_among (filter_map (place_of_restored (special_of o.elf).hints) (alternatives_of o)) (point_at o n).place ≡ false → is_either (start_hint_of o (point_at o n)) ≡ false
+  unfolding entry
+  start_neither other = by_first (eqb (point_at o n).variant 0) (same_place (point_at o n).place entry.replacement) refl refl
+    where
+      restored : eqb (point_at o n).variant 0 ≡ false → same_place (point_at o n).place entry.replacement ≡ true → is_either (for_replacements (hint_at (special_of o.elf).hints entry.original)) ≡ true → ⊥
+      restored replaced first either =
+          let inside_entries = variant_inside (texts_of o) (alternatives_of o) (point_at o n) (numbered_point o n inside) in
+          let some : 0 < (point_at o n).variant = positive (point_at o n).variant replaced in
+          let listed : In entry (alternatives_of o) = in_contains (alternatives_of o) entry (contained (alternatives_of o) ((point_at o n).variant - 1) (omega (arith, inside_entries, some))) in
+          let made : place_of_restored (special_of o.elf).hints entry ≡ Some entry.replacement = ap (λ b. if b then Some entry.replacement else None) (started (hint_at (special_of o.elf).hints entry.original) either) in
+          let among = any_in (same_place (point_at o n).place) (filter_map (place_of_restored (special_of o.elf).hints) (alternatives_of o)) entry.replacement (in-made (place_of_restored (special_of o.elf).hints) (alternatives_of o) entry entry.replacement listed made) first in
+          false≢true (sym other ∙ among)
+
+      by_first : (plain first : Bool) → eqb (point_at o n).variant 0 ≡ plain → same_place (point_at o n).place entry.replacement ≡ first → is_either (cond (not plain && first) (for_replacements (hint_at (special_of o.elf).hints entry.original)) None) ≡ false
+      by_first true first a b = refl
+      by_first false false a b = refl
+      by_first false true a b = elim (cases_Bool (is_either (for_replacements (hint_at (special_of o.elf).hints entry.original)))) [
+        | inl either ↦ absurd (restored a b either)
+        | inr neither ↦ neither
+      ]
+
+  pub neither_elsewhere : is_among (filter_map place_of_either (special_of o.elf).hints) (point_at o n).place ≡ false → is_among (filter_map (place_of_restored (special_of o.elf).hints) (alternatives_of o)) (point_at o n).place ≡ false → is_either (hint_of o (point_at o n)) ≡ false
+  unfolding hint_of own_hint_of
+  neither_elsewhere none other =
+      either_or (own_hint_of o (point_at o n)) (start_hint_of o (point_at o n))
+      (neither_unless (is_padding o (point_at o n)) (hint_at (special_of o.elf).hints (point_at o n).place) (none_elsewhere (special_of o.elf).hints (point_at o n).place none))
+      (start_neither other)

@@ -6,8 +6,8 @@ pub mod Items
 mod ItemSpans
 pub mod ListedFields
 mod Decoded
-mod Pairing
-mod PairsOf
+mod Fourfold
+mod OwnersOf
 mod PatchMarks
 pub mod Made
 pub mod SitePlaces

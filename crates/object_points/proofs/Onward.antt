@@ -1,17 +1,13 @@
 -- Lists of the SAVEs and RESTOREs, on to a number up to which there are no more.
-use Rattle.std.proofs.Common.{◌≡◌, ℕ, zero, suc, ◌+◌, ◌-◌, ◌<◌, ◌≤◌, Bool, true, false, cond, eqb, ◌&&◌, ◌||◌, List, [], ◌∷◌, length, get_or, Option, None, inl, inr, refl, sym, ◌∙◌, subst, arith}
+use Rattle.std.proofs.Common.{◌≡◌, ℕ, zero, suc, ◌+◌, ◌-◌, ◌<◌, ◌≤◌, Bool, true, false, eqb, ◌&&◌, ◌||◌, List, [], ◌∷◌, length, get_or, inl, inr, refl, sym, ◌∙◌, subst, arith}
 use Rattle.std.specs.List.{list_any}
 use Rattle.std.specs.Ordering.{nat_cmp, is_lt, ordering_then}
 use Rattle.std.proofs.lemmas.Bool.{cases_Bool, cases_lt, false≢true}
 use Rattle.std.proofs.lemmas.Bool.Decides.{nat_tests}
 use Rattle.ot_base.specs.declared.place.Place.{Place}
 use Rattle.ot_base.specs.Places.{same_place}
-use Rattle.state_defs.specs.declared.state.HintState.{HintState}
-use Rattle.special_sections.specs.HintStates.{hint_at}
-use Rattle.special_sections.specs.Special.{special_of}
-use Rattle.alternatives.specs.declared.point.Point.{Point}
 use Rattle.flow_defs.specs.Coded.{Coded}
-use Rattle.flow_defs.specs.Arrival.{hint_of, is_padding}
+use Rattle.flow_defs.specs.Arrival.{hint_of}
 use Rattle.flow_defs.specs.Code.{point_at, points_of_object}
 use Rattle.flow_defs.specs.Hints.{is_restore, is_save}
 use Rattle.object_points.specs.Hinted.{is_either, AreListed, ArePlacesOf, HaveNoneBefore, HaveNoneUpTo}
@@ -68,21 +64,12 @@ any_index p (x ∷ places) h =
     ] in
     go (p x) refl h
 
-never : (b : Bool) (hint : Option HintState) → is_either (cond b None hint) ≡ true → is_either hint ≡ true
-never true hint h = absurd (false≢true h)
-never false hint h = h
-
--- the hint of a point is at its place
-hint_placed : (o : Coded) (p : Point) → is_either (hint_of o p) ≡ true → is_either (hint_at (special_of o.elf).hints p.place) ≡ true
-unfolding hint_of
-hint_placed o p either = never (is_padding o p) (hint_at (special_of o.elf).hints p.place) either
-
-place_known : (o : Coded) (places : List Place) (n : ℕ) → ArePlacesOf (special_of o.elf).hints places → either_at o n ≡ true → HasIndex (same_place (point_at o n).place) places
-place_known o places n all either =
+place_known : (o : Coded) (places : List Place) (n : ℕ) → n < length (points_of_object o) → ArePlacesOf o places → either_at o n ≡ true → HasIndex (same_place (point_at o n).place) places
+place_known o places n inside all either =
     let here : Place = (point_at o n).place in
     any_index (same_place here) places (elim (cases_Bool (is_among places here)) [
       | inl among ↦ among
-      | inr other ↦ absurd (false≢true (sym (all here other) ∙ hint_placed o (point_at o n) either))
+      | inr other ↦ absurd (false≢true (sym (all n inside other) ∙ either))
     ])
 
 same_not_before : (a b c d : ℕ) → (eqb a c && eqb b d) ≡ true → is_lt (ordering_then (nat_cmp c a) (nat_cmp d b)) ≡ false
@@ -92,11 +79,11 @@ same_before : (a b c d e f : ℕ) → (eqb a c && eqb b d) ≡ true → is_lt (o
 same_before a b c d e f same before = grind (arith, nat_tests)
 
 -- Where no point from a number on has one at any of the places below an index, none before the place there has one.
-pub none_before : (o : Coded) (places : List Place) (j from : ℕ) (e : Place) → AreByPlace places → ArePlacesOf (special_of o.elf).hints places → ((k : ℕ) (d : Place) → k < j → HaveNoneUpTo o from (get_or places k d)) → HaveNoneBefore o from (get_or places j e)
+pub none_before : (o : Coded) (places : List Place) (j from : ℕ) (e : Place) → AreByPlace places → ArePlacesOf o places → ((k : ℕ) (d : Place) → k < j → HaveNoneUpTo o from (get_or places k d)) → HaveNoneBefore o from (get_or places j e)
 none_before o places j from e by all none n on inside before = elim (cases_Bool (either_at o n)) [
   | inr neither ↦ neither
   | inl either ↦
-      let at = place_known o places n all either in
+      let at = place_known o places n inside all either in
       let here : Place = (point_at o n).place in
       let there : Place = get_or places at.index e in
       let place : Place = get_or places j e in
@@ -107,11 +94,11 @@ none_before o places j from e by all none n on inside before = elim (cases_Bool 
 ]
 
 -- behind all of them none has
-pub none_behind : (o : Coded) (places : List Place) (from n : ℕ) → ArePlacesOf (special_of o.elf).hints places → ((k : ℕ) (d : Place) → k < length places → HaveNoneUpTo o from (get_or places k d)) → from ≤ n → n < length (points_of_object o) → either_at o n ≡ false
+pub none_behind : (o : Coded) (places : List Place) (from n : ℕ) → ArePlacesOf o places → ((k : ℕ) (d : Place) → k < length places → HaveNoneUpTo o from (get_or places k d)) → from ≤ n → n < length (points_of_object o) → either_at o n ≡ false
 none_behind o places from n all none on inside = elim (cases_Bool (either_at o n)) [
   | inr neither ↦ neither
   | inl either ↦
-      let at = place_known o places n all either in
+      let at = place_known o places n inside all either in
       let here : Place = (point_at o n).place in
       let there : Place = get_or places at.index here in
       none at.index here at.inside n on inside (same_not_before here.sec here.off there.sec there.off (at.passes here))

@@ -12,6 +12,7 @@ use Rattle.std.proofs.lemmas.List.Sums.{get_or-le-sum_by, sum_by-cons}
 use Rattle.elf_objects.specs.Contents.{is_text, section_at, section_entry}
 use Rattle.elf_objects.specs.declared.TheConstants.{SHT_NULL, SHT_NOBITS}
 use Rattle.elf_objects.specs.Elf.{SectionEntry}
+use Rattle.ot_base.specs.NameLists.{NameLists}
 use Rattle.flow_defs.specs.Coded.{Coded}
 use Rattle.elf_objects.specs.File.{section_count, section_header}
 use Rattle.elf_objects.specs.Header.{is_text_header}
@@ -174,7 +175,7 @@ first_empty [] ys none = refl
 first_empty (x ∷ xs) ys none = absurd (omega (arith, ap length none))
 
 -- there are few alternatives
-pub few_alternatives : (o : Coded) → AlternativesAreFew → IsObject o.elf.bytes o.elf → special_faults o.elf ≡ [] → length o.elf.bytes ≤ 67108864 → length (special_of o.elf).alternatives ≤ 8388608
-few_alternatives o law is right small =
+pub few_alternatives : (o : Coded) (lists : NameLists) → AlternativesAreFew → IsObject o.elf.bytes o.elf → special_faults o.elf lists ≡ [] → length o.elf.bytes ≤ 67108864 → length (special_of o.elf).alternatives ≤ 8388608
+few_alternatives o lists law is right small =
     let few = law o.elf.bytes o.elf is (first_empty (faults alternatives o.elf) _ right) in
     omega (arith, few, small)

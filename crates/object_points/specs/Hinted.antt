@@ -5,6 +5,7 @@ use Rattle.std.specs.List.Sorted.{IsPermutation}
 use Rattle.ot_base.specs.declared.place.Place.{Place}
 use Rattle.ot_base.specs.Places.{is_before}
 use Rattle.state_defs.specs.declared.state.HintState.{HintState}
+use Rattle.special_sections.specs.declared.entries.AltEntry.{AltEntry}
 use Rattle.special_sections.specs.declared.entries.HintEntry.{HintEntry}
 use Rattle.special_sections.specs.HintStates.{hint_at, hint_state}
 use Rattle.flow_defs.specs.Coded.{Coded}
@@ -56,9 +57,13 @@ is_either hint = is_save hint || is_restore hint
 abbrev pub place_of_either : HintEntry → Option Place
 place_of_either h = if is_either (hint_state h) then Some h.place else None
 
--- none is at any other place than these
-abbrev pub ArePlacesOf : List HintEntry → List Place → Type 0
-ArePlacesOf hints places = (place : Place) → is_among places place ≡ false → is_either (hint_at hints place) ≡ false
+-- where the replacement of an entry begins, if its site starts where a RESTORE is
+abbrev pub place_of_restored : List HintEntry → AltEntry → Option Place
+place_of_restored hints a = if is_restore (hint_at hints a.original) then Some a.replacement else None
+
+-- no point that stands at any other place than these has either
+abbrev pub ArePlacesOf : Coded → List Place → Type 0
+ArePlacesOf o places = (n : ℕ) → n < length (points_of_object o) → is_among places (point_at o n).place ≡ false → is_either (hint_of o (point_at o n)) ≡ false
 
 -- the SAVEs and the RESTOREs among the points below a number
 pub record AreListed (o : Coded) (n : ℕ) (saves : List SavePoint) (restores : List ℕ) : Type 0 where

@@ -1,5 +1,6 @@
--- What is kept of the code of an object.
+-- What is kept of the code of an object, which is in order under some lists of names.
 use Rattle.std.specs.Prelude.{◌≡◌, ◌≤◌, List, Some, map}
+use Rattle.ot_base.specs.NameLists.{NameLists}
 use Rattle.flow_defs.specs.Coded.{Coded}
 use Rattle.special_sections.specs.Special.{SpecialEntries, special_of}
 use Rattle.alternatives.specs.declared.texts.SectionText.{SectionText}
@@ -10,7 +11,7 @@ use Rattle.flow_defs.specs.Code.{alternatives_of, points_of_object, texts_of}
 use Rattle.object_points.specs.Linked.{IsLinked}
 
 pub record IsKept (o : Coded) (texts : List SectionText) (special : SpecialEntries) (sites : SiteList) : Type 0 where
-  pub linked : IsLinked o
+  pub linked : (lists : NameLists) × IsLinked o lists
   pub all_texts : texts ≡ texts_of o
   pub ascending : AscendBySection texts
   pub little_text : text_bytes texts ≤ 16777216

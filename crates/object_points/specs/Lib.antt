@@ -3,7 +3,6 @@ pub mod Starts
 pub mod CodeOwners
 pub mod Kept
 pub mod Owners
-pub mod Pairs
 pub mod Decoded
 pub mod Plain
 pub mod Places

@@ -1,15 +1,16 @@
 //! The points that have a SAVE or a RESTORE.
 
 ghost use Rattle.std.specs.Prelude.{◌≡◌, ◌+◌, ◌<◌, ◌≤◌, ◌^◌, filter_map, length, IfOk, OnOk};
+ghost use Rattle.special_sections.specs.Special.{special_of};
 ghost use Rattle.flow_defs.specs.Code.{points_of_object};
 ghost use Rattle.flow_defs.specs.Hints.{is_restore as is_restore_hint, is_save as is_save_hint};
-ghost use Rattle.object_points.specs.Hinted.{is_either as is_either_hint, place_of_either, restores_of, saves_of, AreListed, ArePlacesOf, HaveNoneBefore, HaveNoneUpTo};
+ghost use Rattle.object_points.specs.Hinted.{is_either as is_either_hint, place_of_either, place_of_restored as place_of_restored_by, restores_of, saves_of, AreListed, ArePlacesOf, HaveNoneBefore, HaveNoneUpTo};
 ghost use Rattle.object_points.specs.Places.{AreByPlace};
 
 use crate::PointPlaces;
 use crate::saves::{SavePoint, save_point};
 use ot_base::{NoMemory, Place};
-use special_sections::{HintEntry, state_of_hint};
+use special_sections::{AltEntry, HintEntry, state_of_hint};
 use state_defs::HintState;
 use std::alloc::Global;
 
@@ -58,14 +59,45 @@ fn places_of(alloc: Global, hints: &[HintEntry]) -> Result<Vec<Place>, NoMemory>
     Ok(places)
 }
 
-/// The same in their order.
-fn sorted_places(alloc: Global, hints: &[HintEntry]) -> Result<Vec<Place>, NoMemory>
-    ensures ordered { IfOk result (λ places. AreByPlace places.items) }
-    ensures all { IfOk result (λ places. ArePlacesOf hints.now places.items) }
+/// Where the replacement of an entry begins, if its site starts where a RESTORE is.
+fn place_of_restored(places: &PointPlaces<'_, '_, '_>, entry: &AltEntry) -> Option<Place>
+    ensures { result ≡ place_of_restored_by (special_of places.now.elf).hints entry.now }
 {
-    let mut places = places_of(alloc, hints)?;
-    places.sort_unstable();
-    Ok(places)
+    if is_restore(places.hint_at(entry.original)) {
+        Some(entry.replacement)
+    } else {
+        None
+    }
+}
+
+/// Where those replacements begin whose sites start where a RESTORE is.
+fn restored_places(
+    alloc: Global,
+    places: &PointPlaces<'_, '_, '_>,
+    entries: &[AltEntry],
+) -> Result<Vec<Place>, NoMemory>
+    ensures { IfOk result (λ list. list.items ≡ filter_map (place_of_restored_by (special_of places.now.elf).hints) entries.now) }
+{
+    let mut list = Vec::new(alloc);
+    for entry in entries {
+        if let Some(place) = place_of_restored(places, entry) {
+            list.push(place)?;
+        }
+    }
+    Ok(list)
+}
+
+/// The places at which points may have a SAVE or a RESTORE, in their order.
+fn sorted_places(alloc: Global, places: &PointPlaces<'_, '_, '_>) -> Result<Vec<Place>, NoMemory>
+    ensures ordered { IfOk result (λ list. AreByPlace list.items) }
+    ensures all { IfOk result (λ list. ArePlacesOf places.now list.items) }
+{
+    let special = places.linked().special();
+    let mut list = places_of(alloc, special.hints())?;
+    let restored = restored_places(alloc, places, special.alternatives())?;
+    list.extend_from_slice(&restored)?;
+    list.sort_unstable();
+    Ok(list)
 }
 
 /// The SAVEs of an object, and the numbers of its RESTOREs, in the order of points.
@@ -127,7 +159,7 @@ pub(crate) fn list_hinted(
     ensures restores { IfOk result (λ hinted. hinted.restores.items ≡ restores_of places.now) }
     ensures few { IfOk result (λ hinted. length hinted.restores.items < 2 ^ 32) }
 {
-    let hinted_places = sorted_places(alloc, places.linked().special().hints())?;
+    let hinted_places = sorted_places(alloc, places)?;
     let mut hinted = Hinted {
         saves: Vec::new(alloc),
         restores: Vec::new(alloc),

@@ -5,6 +5,7 @@ ghost use Rattle.alternatives.specs.Points.{insn_of_point};
 ghost use Rattle.alternatives.specs.Sites.{AreSitesOf};
 ghost use Rattle.alternatives.specs.Texts.{AscendBySection, text_bytes};
 ghost use Rattle.special_sections.specs.Special.{special_of};
+ghost use Rattle.ot_base.specs.NameLists.{NameLists};
 ghost use Rattle.flow_defs.specs.Code.{alternatives_of, points_of_object, texts_of};
 ghost use Rattle.flow_defs.specs.Coded.{coded_by};
 ghost use Rattle.object_points.specs.Linked.{IsLinked, IsLinkFault};
@@ -13,6 +14,7 @@ use crate::fault::LinkFault;
 use crate::texts::{ObjectTexts, read_texts};
 use alternatives::{SectionText, Sites};
 use elf_objects::Object;
+use ot_base::Lists;
 use special_sections::{Special, alternatives_are_few};
 use std::alloc::Global;
 use std::marker::Model;
@@ -43,7 +45,8 @@ impl<'o, 'a> Model for Linked<'o, 'a> {
 
 impl<'o, 'a> Linked<'o, 'a> {
     /// Reads the code of an object by an opcode map: its texts, its special sections, its functions, and its alternatives,
-    /// in this order. The object has at most 67,108,864 bytes (64 MiB), so that its points have numbers.
+    /// in this order. Which of its code is loose, where hints may be any, lists of names say. The object has at most 67,108,864
+    /// bytes (64 MiB), so that its points have numbers.
     ///
     /// # Errors
     ///
@@ -52,15 +55,16 @@ impl<'o, 'a> Linked<'o, 'a> {
         alloc: Global,
         map: Map,
         object: &'o Object<'a>,
+        lists: &Lists,
     ) -> Result<Linked<'o, 'a>, LinkFault>
         requires { length object.now.bytes ≤ 67108864 }
         ensures ok { IfOk result (λ linked. linked ≡ coded_by map object.now) }
-        ensures right { OnOk result (IsLinked (coded_by map object.now)) }
-        ensures err { IfErr result (IsLinkFault (coded_by map object.now)) }
+        ensures right { OnOk result (IsLinked (coded_by map object.now) lists.now) }
+        ensures err { IfErr result (IsLinkFault (coded_by map object.now) lists.now) }
     {
         alternatives_are_few();
         let ObjectTexts { texts, insns } = read_texts(alloc, map, object)?;
-        let special = Special::read(alloc, object)?;
+        let special = Special::read(alloc, object, lists)?;
         let index = Index::build(alloc, object)?;
         let sites = Sites::build(alloc, &special, &texts, insns)?;
         Ok(Linked {
@@ -84,7 +88,7 @@ impl<'o, 'a> Linked<'o, 'a> {
         ensures value { result.now ≡ texts_of self.now }
         ensures ascending { AscendBySection result.now }
         ensures little { text_bytes result.now ≤ 16777216 }
-        ensures linked { IsLinked self.now }
+        ensures linked { (lists : NameLists) × IsLinked self.now lists }
     {
         &self.texts
     }

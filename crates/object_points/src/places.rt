@@ -3,12 +3,14 @@
 ghost use Rattle.std.specs.Prelude.{◌≡◌, ◌+◌, ◌<◌, ◌≤◌, Some, None, false, length, nat_le, slice_get, IfOk, IfSome};
 ghost use Rattle.alternatives.specs.Texts.{is_boundary as is_a_boundary};
 ghost use Rattle.alternatives.specs.Points.{address_of_point};
-ghost use Rattle.flow_defs.specs.Arrival.{decoded_insn as decoded_insn_of, hint_of, is_padding as is_padding_at};
+ghost use Rattle.flow_defs.specs.Arrival.{decoded_insn as decoded_insn_of, for_replacements as for_replacements_of, hint_of, is_padding as is_padding_at, own_hint_of, start_hint_of};
 ghost use Rattle.flow_defs.specs.Code.{alternatives_of, number_of as number_of_point, plain_point, point_at, points_of_object, texts_of};
 ghost use Rattle.object_points.specs.CodeOwners.{IsItemBy, TellOwners};
 ghost use Rattle.object_points.specs.Decoded.{AreDecoded};
 ghost use Rattle.flow_defs.specs.Owners.{function_of_point, is_entry as is_an_entry, is_unchecked as is_unchecked_by, is_unchecked_point as is_unchecked_at, owner_of_point, unchecked_start as unchecked_starting_at};
 ghost use Rattle.flow_defs.specs.Sites.{site_holding};
+ghost use Rattle.special_sections.specs.HintStates.{hint_at as hint_at_place};
+ghost use Rattle.special_sections.specs.Special.{special_of};
 
 use crate::PlaceSet;
 use crate::code_owners::{CodeOwner, CodeOwners, address_of, list_items, list_numbers};
@@ -249,19 +251,61 @@ impl<'l, 'o, 'a> PointPlaces<'l, 'o, 'a> {
         requires { n < length (points_of_object self.now) }
         ensures { result ≡ false → hint_of self.now (point_at self.now n) ≡ None }
     {
-        self.hints.may_have(self.point(n).place)
+        let point = self.point(n);
+        if point.variant != 0 {
+            return true;
+        }
+        self.hints.may_have(point.place)
     }
 
-    /// The unwind hint of a point: the one at its place. Padding has none.
+    /// The unwind hint that counts for a point: the one at its own place; where there is none, and it is the first point of a
+    /// replacement, the one at the place where its site starts, unless that is a SAVE.
     #[inline(always)]
     pub fn hint(&self, n: u32) -> Option<HintState>
         requires { n < length (points_of_object self.now) }
         ensures { result ≡ hint_of self.now (point_at self.now n) }
     {
+        match self.own_hint(n) {
+            Some(hint) => Some(hint),
+            None => self.start_hint(n),
+        }
+    }
+
+    /// The unwind hint at the own place of a point. Padding has none.
+    #[inline(always)]
+    pub fn own_hint(&self, n: u32) -> Option<HintState>
+        requires { n < length (points_of_object self.now) }
+        ensures { result ≡ own_hint_of self.now (point_at self.now n) }
+    {
         if self.is_padding(n) {
             return None;
         }
-        self.plain_hint(self.point(n).place)
+        self.hint_at(self.point(n).place)
+    }
+
+    /// The unwind hint that a point has by the place at which its site starts.
+    fn start_hint(&self, n: u32) -> Option<HintState>
+        requires { n < length (points_of_object self.now) }
+        ensures { result ≡ start_hint_of self.now (point_at self.now n) }
+    {
+        let point = self.point(n);
+        if point.variant == 0 {
+            return None;
+        }
+        let entry = self.linked.special().alternatives()[point.variant as usize - 1];
+        if point.place == entry.replacement {
+            for_replacements(self.hint_at(entry.original))
+        } else {
+            None
+        }
+    }
+
+    /// What the hint at a place does.
+    #[inline(always)]
+    pub(crate) fn hint_at(&self, place: Place) -> Option<HintState>
+        ensures { result ≡ hint_at_place (special_of self.now.elf).hints place }
+    {
+        self.hints.hint_at(place)
     }
 
     /// The unwind hint of the plain point at a place: the hint there.
@@ -269,12 +313,12 @@ impl<'l, 'o, 'a> PointPlaces<'l, 'o, 'a> {
     pub fn plain_hint(&self, place: Place) -> Option<HintState>
         ensures { result ≡ hint_of self.now (plain_point place) }
     {
-        self.hints.hint_at(place)
+        self.hint_at(place)
     }
 
     /// Whether an alternatives site may hold a place, told without a search: where none may, none does.
     #[inline(always)]
-    pub(crate) fn may_be_in_site(&self, place: Place) -> bool
+    pub fn may_be_in_site(&self, place: Place) -> bool
         ensures { result ≡ false → site_holding self.now place ≡ None }
     {
         may_hold(&self.site_marks, place)
@@ -332,6 +376,16 @@ impl<'l, 'o, 'a> PointPlaces<'l, 'o, 'a> {
         }
         let sym = index.functions()[function as usize].sym;
         !is_among(&self.unchecked, sym)
+    }
+}
+
+/// A hint at the place where a site starts, where it counts in each of its replacements: any but a SAVE.
+fn for_replacements(hint: Option<HintState>) -> Option<HintState>
+    ensures { result ≡ for_replacements_of hint }
+{
+    match hint {
+        Some(HintState::Save) | None => None,
+        Some(hint) => Some(hint),
     }
 }
 

@@ -7,7 +7,7 @@ ghost use Rattle.alternatives.specs.Gathered.{plain_insns};
 ghost use Rattle.x86_text.specs.Code.{insns_of, IsCode};
 ghost use Rattle.flow_defs.specs.Code.{body_of, texts_of};
 ghost use Rattle.flow_defs.specs.Coded.{coded_by};
-ghost use Rattle.object_points.specs.Linked.{AllCode, AreCode, IsLinkFault};
+ghost use Rattle.object_points.specs.Linked.{AllCode, AreCode, IsTextsFault};
 
 use crate::fault::LinkFault;
 use alternatives::SectionText;
@@ -38,7 +38,7 @@ fn read_text<'a>(
     ensures read { IfOk result (λ text. text ≡ body_of (coded_by map object.now) sec) }
     ensures code { OnOk result (IsCode (body_of (coded_by map object.now) sec)) }
     ensures insns { OnOk result (insns.new ≡ insns.old ++ insns_of (body_of (coded_by map object.now) sec)) }
-    ensures fault { AreCode (coded_by map object.now) sec → IfErr result (IsLinkFault (coded_by map object.now)) }
+    ensures fault { AreCode (coded_by map object.now) sec → IfErr result (IsTextsFault (coded_by map object.now)) }
 {
     match Text::read(alloc, map, object.section(sec).body, insns) {
         Ok(text) => Ok(text),
@@ -61,7 +61,7 @@ pub(crate) fn read_texts<'a>(
     ensures insns { IfOk result (λ r. r.insns ≡ plain_insns (texts_of (coded_by map object.now))) }
     ensures code { OnOk result (AllCode (coded_by map object.now)) }
     ensures object { OnOk result (IsObject object.now.bytes object.now) }
-    ensures fault { IfErr result (IsLinkFault (coded_by map object.now)) }
+    ensures fault { IfErr result (IsTextsFault (coded_by map object.now)) }
 {
     let mut texts = Vec::new(alloc);
     let mut insns = InsnList::new(alloc)?;

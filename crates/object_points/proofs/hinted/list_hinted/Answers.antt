@@ -3,8 +3,6 @@ use Rattle.std.specs.Prelude.{slice_index_or}
 use Rattle.std.proofs.lemmas.Bool.{cases_lt}
 use Rattle.std.proofs.lemmas.List.{get_or_default}
 use Rattle.ot_base.specs.declared.place.Place.{Place}
-use Rattle.special_sections.specs.declared.entries.HintEntry.{HintEntry}
-use Rattle.special_sections.specs.Special.{special_of}
 use Rattle.flow_defs.specs.Coded.{Coded}
 use Rattle.flow_defs.specs.Code.{points_of_object}
 use Rattle.object_points.specs.Hinted.{AreListed, ArePlacesOf, HaveNoneUpTo}
@@ -17,8 +15,7 @@ list_to-requires-clause-none c =
     let o : Coded = c.args.places.now in
     let items : List Place = c.deref-place-items.result.now in
     let by : AreByPlace items = subst AreByPlace (sym c.deref-place-items.ensures.value) c.in_ok-hinted_places.ensures.ordered in
-    let hints : c.hints.result.now ≡ (special_of o.elf).hints = c.hints.ensures ∙ ap (λ s. s.hints) (c.special.ensures ∙ ap (λ (e : Coded). special_of e.elf) c.linked.ensures) in
-    let all : ArePlacesOf (special_of o.elf).hints items = subst (λ (hs : List HintEntry). ArePlacesOf hs items) hints (subst (ArePlacesOf c.hints.result.now) (sym c.deref-place-items.ensures.value) c.in_ok-hinted_places.ensures.all) in
+    let all : ArePlacesOf o items = subst (ArePlacesOf o) (sym c.deref-place-items.ensures.value) c.in_ok-hinted_places.ensures.all in
     none_before o items c.loop-place.place-index c.loop-place.next (record { sec = 0; off = 0 }) by all c.loop-place.invariant.none
 
 pub loop-place-preserved : goal.loop-place-preserved
@@ -45,8 +42,7 @@ module _ (c : goal.After-drop-hinted_places-2) where
   all_listed =
       let o : Coded = c.args.places.now in
       let items : List Place = c.deref-place-items.result.now in
-      let hints : c.hints.result.now ≡ (special_of o.elf).hints = c.hints.ensures ∙ ap (λ s. s.hints) (c.special.ensures ∙ ap (λ (e : Coded). special_of e.elf) c.linked.ensures) in
-      let all : ArePlacesOf (special_of o.elf).hints items = subst (λ (hs : List HintEntry). ArePlacesOf hs items) hints (subst (ArePlacesOf c.hints.result.now) (sym c.deref-place-items.ensures.value) c.in_ok-hinted_places.ensures.all) in
+      let all : ArePlacesOf o items = subst (ArePlacesOf o) (sym c.deref-place-items.ensures.value) c.in_ok-hinted_places.ensures.all in
       let none : (k : ℕ) (d : Place) → k < length items → HaveNoneUpTo o c.loop-place.next (slice_index_or items k d) = λ k d inside. c.loop-place.invariant.none k d (omega (arith, c.loop-place-test.false, inside)) in
       listed_on o c.loop-place.hinted.saves.items c.loop-place.hinted.restores.items c.loop-place.next (length (points_of_object o)) c.loop-place.invariant.inside
       (λ n on inside. none_behind o items c.loop-place.next n all none on inside)

@@ -18,6 +18,6 @@ pub returns-clause-all : goal.returns-clause-all
 returns-clause-all c =
     let o : Coded = c.args.linked.now in
     record {
-      all = all_sites o c.sites.result.now.sites c.sites.result.now.entry_numbers c.sites.ensures.sites c.texts.ensures.linked.sites;
+      all = all_sites o c.sites.result.now.sites c.sites.result.now.entry_numbers c.sites.ensures.sites c.texts.ensures.linked.1.sites;
       apart = c.sites.ensures.sites.apart;
     }

@@ -8,7 +8,7 @@ use Rattle.alternatives.specs.Gathered.{plain_insns}
 use Rattle.flow_defs.specs.Code.{body_of}
 use Rattle.alternatives.specs.declared.texts.SectionText.{SectionText}
 use Rattle.object_points.proofs.TextsLemmas.{all_texts, code_more, insns_below, other_below, text_below, texts_below}
-use Rattle.object_points.specs.Linked.{AreCode, IsLinkFault}
+use Rattle.object_points.specs.Linked.{AreCode, IsTextsFault}
 use Rattle.object_points.proofs.texts.read_texts.Goals as goal
 use Rattle.object_points.proofs.texts.read_texts.Goals.{then-is_text+in_ok-text+in_ok-push, else-is_text}
 
@@ -23,7 +23,7 @@ more o n t before after text sec body read pushed =
 
 pub returns-in_err-text-clause-fault : goal.returns-in_err-text-clause-fault
 returns-in_err-text-clause-fault c =
-    let here : IsLinkFault (coded_by c.args.map c.args.object.now) c.in_err-text.field-0.0 = c.in_err-text.ensures.fault c.loop-sec.invariant.code in
+    let here : IsTextsFault (coded_by c.args.map c.args.object.now) c.in_err-text.field-0.0 = c.in_err-text.ensures.fault c.loop-sec.invariant.code in
     let p = err_from_is_err_and c.from_residual-in_err-text.result c.from_residual-in_err-text.ensures.1 in
     rw (p.1, p.2) here
 

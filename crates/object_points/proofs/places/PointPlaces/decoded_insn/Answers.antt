@@ -3,7 +3,7 @@ use Rattle.std.specs.Prelude.{unwrap_or}
 use Rattle.flow_defs.specs.Coded.{Coded}
 use Rattle.alternatives.specs.declared.point.Point.{Point}
 use Rattle.alternatives.specs.Points.{insn_of_point}
-use Rattle.flow_defs.specs.Arrival.{decoded_insn, no_insn}
+use Rattle.flow_defs.specs.Decoded.{decoded_insn, no_insn}
 use Rattle.flow_defs.specs.Code.{alternatives_of, no_point, points_of_object, texts_of}
 use Rattle.object_points.proofs.Numbers.{made_at}
 use Rattle.object_points.proofs.places.PointPlaces.decoded_insn.Goals as goal

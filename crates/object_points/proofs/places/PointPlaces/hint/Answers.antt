@@ -1,26 +1,19 @@
-use Rattle.std.proofs.Common.{Bool, cond, Option, None, sym, ap, ◌∙◌}
-use Rattle.flow_defs.specs.Coded.{Coded}
-use Rattle.special_sections.specs.Special.{special_of}
-use Rattle.alternatives.specs.declared.point.Point.{Point}
+use Rattle.std.proofs.Common.{Option, ap, ◌∙◌}
+use Rattle.std.specs.Option.{option_or}
 use Rattle.state_defs.specs.declared.state.HintState.{HintState}
-use Rattle.special_sections.specs.HintStates.{hint_at}
-use Rattle.flow_defs.specs.Arrival.{hint_of}
+use Rattle.flow_defs.specs.Coded.{Coded}
+use Rattle.flow_defs.specs.Arrival.{hint_of, start_hint_of}
 use Rattle.flow_defs.specs.Code.{point_at}
 use Rattle.object_points.proofs.places.PointPlaces.hint.Goals as goal
 
-abbrev unless : Bool → Option HintState → Option HintState
-unless padding hint = cond padding None hint
-
-pub returns-then-is_padding : goal.returns-then-is_padding
+pub returns-in-Some : goal.returns-in-Some
 unfolding hint_of
-returns-then-is_padding c =
+returns-in-Some c =
     let o : Coded = c.args.self.now in
-    sym (ap (λ b. unless b (hint_at (special_of o.elf).hints (point_at o c.args.n).place)) (sym c.is_padding.ensures ∙ c.if-is_padding.true))
+    ap (λ (own : Option HintState). option_or own (start_hint_of o (point_at o c.args.n))) c.in-Some.ensures
 
-pub returns : goal.returns
+pub returns-in-None : goal.returns-in-None
 unfolding hint_of
-returns c =
+returns-in-None c =
     let o : Coded = c.args.self.now in
-    c.plain_hint.ensures
-    ∙ ap (λ (q : Point). hint_at (special_of o.elf).hints q.place) c.point.ensures
-    ∙ sym (ap (λ b. unless b (hint_at (special_of o.elf).hints (point_at o c.args.n).place)) (sym c.is_padding.ensures ∙ c.if-is_padding.false))
+    c.start_hint.ensures ∙ ap (λ (own : Option HintState). option_or own (start_hint_of o (point_at o c.args.n))) c.in-None.ensures
