@@ -19,7 +19,7 @@ pub use lines::write_line;
 pub use mem_files::MemFiles;
 pub use mem_sink::MemSink;
 pub use output::{Sink, SinkError};
-pub use std_files::StdFiles;
+pub use std_files::{FileFault, StdFiles};
 pub use std_sink::StdSink;
 pub use sure_files::SureFiles;
 pub use sure_sink::SureSink;

@@ -14,14 +14,24 @@ use std::{fs, io};
 /// How many bytes are read at once.
 const PIECE_BYTES: usize = 8192;
 
-/// The files of the system that a runtime reaches. They tell no content, and count each call that
-/// fails; a file that is missing or too long is no failure. A file gets new content in one step
+/// A call on a file that failed.
+#[derive(Drop)]
+pub struct FileFault {
+    /// The file's name.
+    pub name: String,
+    /// Why it failed, as the system tells it.
+    pub error: io::Error,
+}
+
+/// The files of the system that a runtime reaches. They tell no content, count each call that
+/// fails, and remember the last; a file that is missing or too long is no failure. A file gets new content in one step
 /// (`replace`), so after a refused write it holds what it held.
 #[derive(Drop)]
 pub struct StdFiles<R> {
     alloc: Global,
     runtime: R,
     faults: u64,
+    last_fault: Option<FileFault>,
 }
 
 impl<R> Model for StdFiles<R> {
@@ -41,15 +51,26 @@ impl<R: SystemFiles> StdFiles<R> {
             alloc,
             runtime,
             faults: 0,
+            last_fault: None,
         }
     }
 
-    fn fault(&mut self) -> FileError
+    /// The last call that failed; nothing where none did, or where there was no memory for the name.
+    pub fn last_fault(&self) -> Option<&FileFault> {
+        self.last_fault.as_ref()
+    }
+
+    /// Counts and remembers a call that failed.
+    fn fault(&mut self, name: &str, error: io::Error) -> FileError
         ensures answer { result ≡ FileError.Failed }
         ensures counted { self.new ≡ raised self.old }
         ensures later { self.old ≤ self.new }
     {
         self.faults = self.faults.saturating_add(1);
+        self.last_fault = match String::from_str(self.alloc, name) {
+            Ok(name) => Some(FileFault { name, error }),
+            Err(_) => None,
+        };
         FileError::Failed
     }
 }
@@ -88,7 +109,7 @@ impl<R: SystemFiles> Files for StdFiles<R> {
         let file = match fs::open(&self.runtime, name) {
             Ok(file) => file,
             Err(e) if e.kind() == ErrorKind::NotFound => return Err(FileError::Missing),
-            Err(_) => return Err(self.fault()),
+            Err(e) => return Err(self.fault(name, e)),
         };
         reserve_said(&file, limit, into);
         let mut reader = file.take(limit.saturating_add(1));
@@ -96,7 +117,7 @@ impl<R: SystemFiles> Files for StdFiles<R> {
             Ok(()) if into.len() as u64 <= limit => return Ok(()),
             Ok(()) => FileError::TooLong { limit },
             Err(e) if e.kind() == ErrorKind::OutOfMemory => FileError::NoMemory,
-            Err(_) => self.fault(),
+            Err(e) => self.fault(name, e),
         };
         into.clear();
         Err(error)
@@ -106,7 +127,7 @@ impl<R: SystemFiles> Files for StdFiles<R> {
         match replace(&self.runtime, self.alloc, name, bytes) {
             Ok(()) => Ok(()),
             Err(e) if e.kind() == ErrorKind::OutOfMemory => Err(FileError::NoMemory),
-            Err(_) => Err(self.fault()),
+            Err(e) => Err(self.fault(name, e)),
         }
     }
 }
