@@ -6,7 +6,7 @@ use Rattle.std.specs.Str.{bytes_eq}
 use Rattle.std.specs.Str.Lines.{lines}
 use Rattle.explanations.specs.Entry.{Entry, entry_on, text_on}
 use Rattle.explanations.specs.Topics.{is_topic, topics_text}
-use Rattle.explanations.specs.Volumes.{entries, rules_1_to_9, rules_10_to_19, rules_21_to_44, rules_45_to_54, refusals_of_entries, refusals_bad, refusals_f_to_m, refusals_n, refusals_o_to_z}
+use Rattle.explanations.specs.Volumes.{entries, rules_1_to_9, rules_10_to_19, rules_21_to_44, rules_45_to_54, refusals_of_entries, refusals_bad, files_that_fail, refusals_f_to_m, refusals_n, refusals_o_to_z}
 use Rattle.cli_words.specs.Words.{Word}
 use Rattle.advice.specs.KnownWords.{AreTopics, topic_words}
 
@@ -15,7 +15,7 @@ abbrev pub topics_in : List ℕ → List Word
 topics_in text = filter is_topic (map (before_first (λ byte. byte == 32)) (lines text))
 
 all-listed : topics_in topics_text ≡ topic_words
-unfolding topics_text entries rules_1_to_9 rules_10_to_19 rules_21_to_44 rules_45_to_54 refusals_of_entries refusals_bad refusals_f_to_m refusals_n refusals_o_to_z
+unfolding topics_text entries rules_1_to_9 rules_10_to_19 rules_21_to_44 rules_45_to_54 refusals_of_entries refusals_bad files_that_fail refusals_f_to_m refusals_n refusals_o_to_z
 all-listed = refl
 
 -- some entries have a text on a word where it is among their topics

@@ -1,4 +1,5 @@
 pub mod Advice
+pub mod Files
 pub mod KnownWords
 pub mod MissingNames
 pub mod Nearest

@@ -1,9 +1,12 @@
-//! What helps with words at fault and with refusals: the known word that was meant, the topic that explains.
+//! What helps with words at fault, refusals and files that fail: the known word that was meant, the topic that explains, the name that is
+//! missing, the file that wasn't written.
 #![tactic(auto)]
 
+mod files;
 mod known_words;
 mod lines;
 mod missing_names;
 mod nearest;
 
+pub use files::{fault_line, out_name, standing_line};
 pub use lines::{refusal_line, usage_line};

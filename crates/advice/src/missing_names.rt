@@ -47,7 +47,7 @@ pub(crate) fn usage(first: &str) -> &'static str
 }
 
 /// Whether a word behind a command is a name or a number, and no option.
-fn is_name(word: &str) -> bool
+pub(crate) fn is_name(word: &str) -> bool
     ensures { result ≡ not (is_option word.now) }
 {
     match word.as_bytes() {
@@ -68,7 +68,7 @@ fn count_names(words: &[String]) -> usize
 }
 
 /// The name at this place, where there is one.
-fn name_at(names: &[&'static str], at: usize) -> Option<&'static str>
+pub(crate) fn name_at<'a>(names: &[&'a str], at: usize) -> Option<&'a str>
     ensures { option_map (λ name. name.now) result ≡ slice_get (map (λ name. name.now) names.now) at }
 {
     if at < names.len() {

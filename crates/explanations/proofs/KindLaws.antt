@@ -5,14 +5,14 @@ use Rattle.std.specs.Option.{IfSome}
 use Rattle.std.specs.List.{list_all}
 use Rattle.explanations.specs.Topics.{is_topic}
 use Rattle.explanations.specs.Refusals.{AreKindsTold, Mark, has_words, marks, topic_in}
-use Rattle.explanations.specs.Volumes.{entries, rules_1_to_9, rules_10_to_19, rules_21_to_44, rules_45_to_54, refusals_of_entries, refusals_bad, refusals_f_to_m, refusals_n, refusals_o_to_z}
+use Rattle.explanations.specs.Volumes.{entries, rules_1_to_9, rules_10_to_19, rules_21_to_44, rules_45_to_54, refusals_of_entries, refusals_bad, files_that_fail, refusals_f_to_m, refusals_n, refusals_o_to_z}
 
 marks-are-topics : list_all (λ mark. is_topic mark.topic) marks ≡ true
-unfolding marks entries rules_1_to_9 rules_10_to_19 rules_21_to_44 rules_45_to_54 refusals_of_entries refusals_bad refusals_f_to_m refusals_n refusals_o_to_z
+unfolding marks entries rules_1_to_9 rules_10_to_19 rules_21_to_44 rules_45_to_54 refusals_of_entries refusals_bad files_that_fail refusals_f_to_m refusals_n refusals_o_to_z
 marks-are-topics = refl
 
 pub kinds-are-told : AreKindsTold
-unfolding marks entries rules_1_to_9 rules_10_to_19 rules_21_to_44 rules_45_to_54 refusals_of_entries refusals_bad refusals_f_to_m refusals_n refusals_o_to_z
+unfolding marks entries rules_1_to_9 rules_10_to_19 rules_21_to_44 rules_45_to_54 refusals_of_entries refusals_bad files_that_fail refusals_f_to_m refusals_n refusals_o_to_z
 kinds-are-told = refl
 
 both : (a b : Bool) → (a && b) ≡ true → (a ≡ true) × (b ≡ true)

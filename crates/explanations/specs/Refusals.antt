@@ -1,12 +1,12 @@
--- Which kind of refusal a line tells.
-use Rattle.std.specs.Prelude.{ℕ, ◌==◌, ◌||◌, Bool, false, List, [], ◌∷◌, ◌++◌, map, find, codes, IsTrue, Option, None, option_map, if◌then◌else◌}
+-- Which kind of refusal, or which reason for which a file fails, a line tells.
+use Rattle.std.specs.Prelude.{ℕ, ◌==◌, ◌||◌, Bool, false, List, [], ◌∷◌, map, find, codes, IsTrue, Option, None, option_map, if◌then◌else◌}
 use Rattle.std.specs.List.{list_all, starts_with}
 use Rattle.std.specs.Borrow.{Bor}
-use Rattle.explanations.specs.Topics.{is_rule, is_told}
+use Rattle.explanations.specs.Topics.{is_rule, is_told, told_as}
 use Rattle.explanations.specs.Volumes.{entries}
 use Rattle.explanations.specs.declared.refusal.TheConstants.{MARKS}
 
--- Words that stand in the lines of a kind of refusal, and its topic. A name of a file or of a section is printed without blanks, and
+-- Words that stand in the lines of a kind of refusal or of a reason for which a file fails, and its topic. A name of a file or of a section is printed without blanks, and
 -- such words have one: so they stand in what the line says itself.
 pub record Mark : Type 0 where
   pub words : List ℕ
@@ -27,10 +27,14 @@ has_words (x ∷ line) words = starts_with (λ a b. a == b) (x ∷ line) words |
 abbrev pub topic_in : List Mark → List ℕ → Option (List ℕ)
 topic_in marks line = option_map (λ mark. mark.topic) (find (λ mark. has_words line mark.words) marks)
 
--- the topic of the refusal that a line tells, which begins with these words
-abbrev pub topic_of : List ℕ → Option (List ℕ)
-topic_of line = if starts_with (λ a b. a == b) line (codes "refused: ") then topic_in marks line else None
+-- a line tells a refusal, or why a file fails: it begins with these words
+abbrev pub is_explained : List ℕ → Bool
+is_explained line = starts_with (λ a b. a == b) line (codes "refused: ") || starts_with (λ a b. a == b) line (codes "objtool: ")
 
--- the line that is the title of a kind of refusal tells that kind
+-- the topic of what such a line tells
+abbrev pub topic_of : List ℕ → Option (List ℕ)
+topic_of line = if is_explained line then topic_in marks line else None
+
+-- the line that is the title of a kind of refusal, or of a reason for which a file fails, tells that kind or reason
 abbrev pub AreKindsTold : Type 0
-AreKindsTold = IsTrue (list_all (λ e. is_rule e || is_told (topic_of (codes "refused: " ++ e.title)) e.topic) entries)
+AreKindsTold = IsTrue (list_all (λ e. is_rule e || is_told (topic_of (told_as e)) e.topic) entries)

@@ -43,9 +43,16 @@ begins_with_digit (x ∷ word) = nat_lt 47 x && nat_lt x 58
 abbrev pub is_rule : Entry → Bool
 is_rule e = begins_with_digit e.topic
 
--- the line that tells a rule or a refusal, from these words on
+-- it is a reason for which a file fails where it begins with these letters
+abbrev pub is_of_files : Entry → Bool
+is_of_files e = starts_with (λ a b. a == b) e.topic (codes "file-")
+
+-- the line that tells a rule, a refusal, or a reason for which a file fails, from these words on
+abbrev pub told_as : Entry → List ℕ
+told_as e = (if is_rule e then codes "rule " ++ e.topic ++ codes ": " else if is_of_files e then codes "objtool: " else codes "refused: ") ++ e.title
+
 abbrev pub title_line : Entry → List ℕ
-title_line e = (if is_rule e then codes "rule " ++ e.topic ++ codes ": " else codes "refused: ") ++ e.title ++ codes "\n"
+title_line e = told_as e ++ codes "\n"
 
 -- each text begins with that line
 abbrev pub AreTitled : Type 0
@@ -56,7 +63,7 @@ is_less Less = true
 is_less Equal = false
 is_less Greater = false
 
--- the order of topics: rules by their numbers, then kinds of refusals by their bytes
+-- the order of topics: rules by their numbers, then the others by their bytes
 abbrev pub comes_before : Entry → Entry → Bool
 comes_before one other =
     let by_bytes = is_less (slice_cmp nat_cmp one.topic other.topic) in

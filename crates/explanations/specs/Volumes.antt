@@ -7,6 +7,7 @@ use Rattle.explanations.specs.declared.rules_21_to_44.TheConstants as rules_21_t
 use Rattle.explanations.specs.declared.rules_45_to_54.TheConstants as rules_45_to_54_constants
 use Rattle.explanations.specs.declared.refusals_of_entries.TheConstants as refusals_of_entries_constants
 use Rattle.explanations.specs.declared.refusals_bad.TheConstants as refusals_bad_constants
+use Rattle.explanations.specs.declared.files_that_fail.TheConstants as files_that_fail_constants
 use Rattle.explanations.specs.declared.refusals_f_to_m.TheConstants as refusals_f_to_m_constants
 use Rattle.explanations.specs.declared.refusals_n.TheConstants as refusals_n_constants
 use Rattle.explanations.specs.declared.refusals_o_to_z.TheConstants as refusals_o_to_z_constants
@@ -39,6 +40,10 @@ refusals_of_entries = map stated refusals_of_entries_constants.ROWS
 unfoldable pub refusals_bad : List Entry
 refusals_bad = map stated refusals_bad_constants.ROWS
 
+-- the reasons for which files fail, from `file-folder` to `file-too-large`
+unfoldable pub files_that_fail : List Entry
+files_that_fail = map stated files_that_fail_constants.ROWS
+
 -- the refusals from `frame-relocation` to `missing`
 unfoldable pub refusals_f_to_m : List Entry
 refusals_f_to_m = map stated refusals_f_to_m_constants.ROWS
@@ -51,6 +56,6 @@ refusals_n = map stated refusals_n_constants.ROWS
 unfoldable pub refusals_o_to_z : List Entry
 refusals_o_to_z = map stated refusals_o_to_z_constants.ROWS
 
--- those on all topics: the rules by their numbers, then the kinds of refusals by their names
+-- those on all topics: the rules by their numbers, then the kinds of refusals, and the reasons for which files fail, by their names
 unfoldable pub entries : List Entry
-entries = rules_1_to_9 ++ (rules_10_to_19 ++ (rules_21_to_44 ++ (rules_45_to_54 ++ (refusals_of_entries ++ (refusals_bad ++ (refusals_f_to_m ++ (refusals_n ++ (refusals_o_to_z ++ []))))))))
+entries = rules_1_to_9 ++ (rules_10_to_19 ++ (rules_21_to_44 ++ (rules_45_to_54 ++ (refusals_of_entries ++ (refusals_bad ++ (files_that_fail ++ (refusals_f_to_m ++ (refusals_n ++ (refusals_o_to_z ++ [])))))))))

@@ -1,6 +1,7 @@
-//! What each rule, and each kind of refusal, means: the texts of `explain`.
+//! What each rule, each kind of refusal, and each reason for which a file fails, means: the texts of `explain`.
 #![tactic(auto)]
 
+mod files_that_fail;
 mod listing;
 mod lookup;
 mod refusal;

@@ -62,6 +62,13 @@ bad-relocation  section N: bad relocation M
 bad-slot  row N: bad slot: WHY
 bad-symbol  symbol N: bad symbol
 bad-table  section N: bad table
+file-folder  NAME: Is a directory
+file-full  NAME: No space left on device
+file-no-folder  NAME: No such file or directory
+file-not-a-folder  NAME: Not a directory
+file-permission  NAME: Permission denied
+file-read-only  NAME: Read-only file system
+file-too-large  NAME: File too large
 frame-relocation  bad relocation at N
 frame-section  section N is a frame section
 image-line  image line N: bad word

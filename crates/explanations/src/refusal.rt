@@ -1,16 +1,16 @@
-//! Which kind of refusal a line tells.
+//! Which kind of refusal, or which reason for which a file fails, a line tells.
 
 ghost use Rattle.std.specs.Prelude.{◌≡◌, IfSome, IsTrue, map, option_map};
 ghost use Rattle.std.specs.List.{find};
-ghost use Rattle.explanations.specs.Refusals.{AreKindsTold, has_words, mark_of, marks, topic_in, topic_of};
+ghost use Rattle.explanations.specs.Refusals.{AreKindsTold, has_words, is_explained, mark_of, marks, topic_in, topic_of};
 ghost use Rattle.explanations.specs.Topics.{is_topic};
 
-/// Words that stand in the lines of a kind of refusal, and its topic.
+/// Words that stand in the lines of a kind of refusal or of a reason for which a file fails, and its topic.
 type Mark = (&'static str, &'static str);
 
-/// The words by which kinds of refusals are known. A name of a file or of a section is printed without blanks, and each of these has
+/// The words by which kinds of refusals, and reasons for which files fail, are known. A name of a file or of a section is printed without blanks, and each of these has
 /// one, so they stand in what the line says itself. Words that lines of another kind have too stand behind those of that kind.
-const MARKS: [Mark; 53] = [
+const MARKS: [Mark; 62] = [
     (" is missing", "missing"),
     (" is longer than ", "longer"),
     ("names file line ", "names-file"),
@@ -64,6 +64,15 @@ const MARKS: [Mark; 53] = [
     (" rows, ", "rows-and-places"),
     ("table: bad at byte ", "table"),
     (": wraps", "wraps"),
+    (": Is a directory", "file-folder"),
+    (": No space left on device", "file-full"),
+    (": Disk quota exceeded", "file-full"),
+    (": No such file or directory", "file-no-folder"),
+    (": Not a directory", "file-not-a-folder"),
+    (": Permission denied", "file-permission"),
+    (": Operation not permitted", "file-permission"),
+    (": Read-only file system", "file-read-only"),
+    (": File too large", "file-too-large"),
 ];
 
 /// These words, as a slice.
@@ -106,14 +115,21 @@ fn topic_in(marks: &[Mark], line: &[u8]) -> Option<&'static str>
     }
 }
 
-/// The topic of the refusal that a line tells, as it is printed: it begins with `refused: `, and may end in a line feed. A line
-/// that tells none has no topic.
+/// Whether a line tells a refusal, or why a file fails.
+fn is_explained(line: &[u8]) -> bool
+    ensures { result ≡ is_explained line.now }
+{
+    line.starts_with(b"refused: ") || line.starts_with(b"objtool: ")
+}
+
+/// The topic of what a line tells, as it is printed: a refusal, where it begins with `refused: `, or why a file fails, where it begins
+/// with `objtool: `. It may end in a line feed. A line that tells none has no topic.
 pub fn topic_of_refusal(line: &[u8]) -> Option<&'static str>
     ensures topic { option_map (λ topic. topic.now) result ≡ topic_of line.now }
     ensures explained { IfSome result (λ topic. IsTrue (is_topic topic.now)) }
     ensures titles { AreKindsTold }
 {
-    if line.starts_with(b"refused: ") {
+    if is_explained(line) {
         topic_in(marks(), line)
     } else {
         None

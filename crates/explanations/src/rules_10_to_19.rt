@@ -89,11 +89,15 @@ that should lead there doesn't. This is looked for where nothing of rules 1 to
 In C it is code behind a call of a function that never returns, as this object
 or a list has it: take out a name that is listed wrongly, or give the callee
 __noreturn. Or a jump's table isn't known, whose places then have no path to
-them: tables are looked for in .rodata and .data.rel.ro sections alone. In
-assembly it is code whose address is kept somewhere: say at its start what the
-stack is, by UNWIND_HINT_FUNC, UNWIND_HINT_REGS or UNWIND_HINT_UNDEFINED, or
-make it a function (SYM_FUNC_START). Remove what nothing uses. nop, int3 and
-ud2 as padding aren't told.
+them: tables are looked for in .rodata and .data.rel.ro sections alone, and
+that of a switch which was compiled with -fpie holds distances, which aren't
+followed. Kernels are compiled with -fno-pie. Where the stack isn't as at the
+entry, such a jump breaks rule 6.
+
+In assembly it is code whose address is kept somewhere: say at its start what
+the stack is, by UNWIND_HINT_FUNC, UNWIND_HINT_REGS or UNWIND_HINT_UNDEFINED,
+or make it a function (SYM_FUNC_START). Remove what nothing uses. nop, int3
+and ud2 as padding aren't told.
 
 A linker that drops a weak definition leaves its code without a symbol: a
 hole. Where objects were joined, as two file symbols show or --link says,

@@ -121,7 +121,10 @@ functions and expects what was pushed, it is no function: put it into the same
 function as the jump, or write a call. Conditional jumps count too, and jumps
 to a symbol that is defined elsewhere. Code behind a call of a function that
 never returns and isn't listed (`noreturn NAME`, by --names) shows this rule
-as well.
+as well. So does a switch that was compiled with -fpie: its table holds
+distances, which aren't followed, so its jump counts as one to elsewhere;
+where the stack is as at the entry, rule 14 tells its cases instead. Kernels
+are compiled with -fno-pie.
 ",
     ),
     (

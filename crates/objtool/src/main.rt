@@ -1,16 +1,19 @@
-//! The program: the command of its words over the system's files and output, the exit status, and beside them a line that helps with what is at fault.
+//! The program: the command of its words over the system's files and output, the exit status, and beside them lines that help with what
+//! is at fault.
 #![tactic(auto)]
 
 mod last_line;
+mod standing;
 
 ghost use Rattle.std.specs.Prelude.{◌≡◌};
 ghost use Rattle.objtool_cli.specs.Status.{exit_code};
 
 use crate::last_line::LastLine;
-use advice::{refusal_line, usage_line};
+use crate::standing::standing;
+use advice::{fault_line, out_name, refusal_line, standing_line, usage_line};
 use objtool_cli::{Status, run};
-use ot_files::{StdFiles, StdSink};
-use std::alloc::Global;
+use ot_files::{FileFault, StdFiles, StdSink};
+use std::alloc::{AllocError, Global};
 use std::process::ExitCode;
 use std::{env, fs, io};
 
@@ -30,16 +33,44 @@ fn exit_code(status: Status) -> u8
     status.code()
 }
 
-/// Says to the standard error what helps with words at fault, or with the refusal that the last line tells. Where
-/// the standard error fails or memory runs out, nothing more is said.
-fn advise(rt: &HostRuntime, alloc: Global, words: &[String], status: Status, last_line: &[u8]) {
-    let said = match status {
-        Status::Usage => usage_line(alloc, words),
-        Status::Refused => refusal_line(alloc, last_line),
-        _ => Ok(None),
-    };
-    if let Ok(Some(line)) = said {
+/// Says a line to the standard error. Where it fails or there was no memory for the line, nothing is said.
+fn say(rt: &HostRuntime, line: Result<Option<String>, AllocError>) {
+    if let Ok(Some(line)) = line {
         let _ = eprintln!(rt; "{line}");
+    }
+}
+
+/// The reason of an error in the system's words, without the error's number.
+fn reason(text: &str) -> &str {
+    match text.split_once(" (os error ") {
+        Some((reason, _)) => reason,
+        None => text,
+    }
+}
+
+/// The line that says why a file couldn't be read or written.
+fn fault_line_of(alloc: Global, fault: &FileFault) -> Result<String, AllocError> {
+    let text = format!(in alloc; "{}", fault.error)?;
+    fault_line(alloc, fault.name.as_str(), reason(text.as_str()))
+}
+
+/// Says why a file couldn't be read or written, and which topic explains it.
+fn explain_fault(rt: &HostRuntime, alloc: Global, fault: Option<&FileFault>) {
+    let Some(fault) = fault else {
+        return;
+    };
+    if let Ok(line) = fault_line_of(alloc, fault) {
+        let topic = refusal_line(alloc, line.as_bytes());
+        say(rt, Ok(Some(line)));
+        say(rt, topic);
+    }
+}
+
+/// Says that the file to write stands from before this run.
+fn tell_standing(rt: &HostRuntime, alloc: Global, name: &str) {
+    match standing_line(alloc, name) {
+        Ok(line) => say(rt, Ok(Some(line))),
+        Err(AllocError) => {}
     }
 }
 
@@ -80,9 +111,22 @@ fn main(rt: HostRuntime) -> ExitCode {
         Err(_) => Vec::new(alloc),
     };
     keep_blocks(&rt, alloc, &words);
+    let out_name = out_name(alloc, &words).unwrap_or(None);
+    let before = out_name.and_then(|name| standing(&rt, name));
     let mut files = StdFiles::new(alloc, &rt);
     let mut out = LastLine::new(alloc, StdSink::new(&rt));
     let status = run(alloc, &words, &mut files, &mut out);
-    advise(&rt, alloc, &words, status, out.line());
+    match status {
+        Status::Usage => say(&rt, usage_line(alloc, &words)),
+        Status::Refused => say(&rt, refusal_line(alloc, out.line())),
+        Status::FileFault => explain_fault(&rt, alloc, files.last_fault()),
+        _ => {}
+    }
+    if let (Some(name), Some(before)) = (out_name, before)
+        && status != Status::Done
+        && standing(&rt, name) == Some(before)
+    {
+        tell_standing(&rt, alloc, name);
+    }
     ExitCode::from(exit_code(status))
 }
