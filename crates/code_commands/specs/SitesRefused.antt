@@ -11,4 +11,4 @@ use Rattle.code_commands.specs.Sites.{GetNoSites}
 -- `sites IN OUT`: IN is read; then the names file, where one is given, and its lines; then the bytes of IN are
 -- parsed, their code is read, and the lists of its sites are added.
 abbrev pub RefusesSites : ListOptions → Map → List ℕ → Option (List ℕ) → Content → CommandStop → Type 0
-RefusesSites options map input names held = RefusesInput (GetNoSites map) input names held
+RefusesSites options map input names held = RefusesInput (GetNoSites options map) input names held
