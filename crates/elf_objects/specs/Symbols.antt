@@ -8,6 +8,8 @@ use Rattle.elf_objects.specs.declared.fault.Counted.TheVariants.{Symbols}
 use Rattle.elf_objects.specs.declared.symbol.Reloc.{Reloc}
 use Rattle.elf_objects.specs.Below.{AllBelow, FirstBelow}
 use Rattle.elf_objects.specs.File.{section_count, section_header}
+use Rattle.elf_objects.specs.Sections.{IsPlain}
+use Rattle.elf_objects.specs.declared.header.SectionHeader.{SectionHeader}
 use Rattle.elf_objects.specs.declared.TheConstants.{SHN_LORESERVE, SHN_ABS, SHN_COMMON, SHN_XINDEX, STB_LOCAL, SHT_RELA, R_X86_64_64, R_X86_64_PC32, R_X86_64_PLT32, R_X86_64_32, R_X86_64_32S}
 use Rattle.elf_objects.specs.Table.{index_entry, index_table, raw_symbol, reloc_of, string_header, symbol_count, symbol_header}
 use Rattle.std.specs.Prelude.{IsSome}
@@ -50,14 +52,15 @@ is_read kind = (kind == R_X86_64_64) || (kind == R_X86_64_PC32) || (kind == R_X8
 abbrev pub field_size : ℕ → ℕ
 field_size kind = if kind == R_X86_64_64 then 8 else 4
 
--- a relocation names a symbol, and its field lies in the section that it changes
-pub record IsRelocOf (r : Reloc) (symbols target_size : ℕ) : Type 0 where
+-- A relocation names a symbol, and its field lies in the section that it changes. Of a compressed section fields aren't looked at:
+-- they are those of its bytes before they were compressed.
+pub record IsRelocIn (r : Reloc) (symbols : ℕ) (target : SectionHeader) : Type 0 where
   pub symbol : r.sym < symbols
-  pub field : IsTrue (is_read r.kind) → r.offset + field_size r.kind ≤ target_size
+  pub field : IsPlain target → IsTrue (is_read r.kind) → r.offset + field_size r.kind ≤ target.size
 
 -- so does the relocation k of the section i
 abbrev pub IsReloc : List ℕ → ℕ → ℕ → Type 0
-IsReloc b i k = IsRelocOf (reloc_of b (section_header b i) k) (symbol_count b) (section_header b (section_header b i).info).size
+IsReloc b i k = IsRelocIn (reloc_of b (section_header b i) k) (symbol_count b) (section_header b (section_header b i).info)
 
 pub record RelocFault (b : List ℕ) (i k : ℕ) (e : ElfFault) : Type 0 where
   pub fails : ¬ IsReloc b i k

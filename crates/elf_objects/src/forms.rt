@@ -27,7 +27,7 @@ fn has_entries(h: &SectionHeader, size: u64) -> bool
     h.entsize == size && h.size % size == 0
 }
 
-fn is_plain(h: &SectionHeader) -> bool
+pub(crate) fn is_plain(h: &SectionHeader) -> bool
     ensures { IsTrue result ↔ IsPlain h.now }
 {
     h.flags & SHF_COMPRESSED == 0

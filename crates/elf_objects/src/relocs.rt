@@ -6,11 +6,12 @@ ghost use Rattle.elf_objects.specs.Below.{AllBelow, FirstBelow};
 ghost use Rattle.elf_objects.specs.File.{section_count, section_header};
 ghost use Rattle.elf_objects.specs.Found.{AreRelas};
 ghost use Rattle.elf_objects.specs.Sections.{HasBody, HasLinks};
-ghost use Rattle.elf_objects.specs.Symbols.{HasRelocs, RelocsFault, IsReloc, RelocFault, IsRelocOf};
+ghost use Rattle.elf_objects.specs.Symbols.{HasRelocs, RelocsFault, IsReloc, RelocFault, IsRelocIn, field_size, is_read};
 ghost use Rattle.elf_objects.specs.Table.{reloc_of, header_of, rela_of};
 
 use crate::entry::read_reloc;
 use crate::fault::ElfFault;
+use crate::forms::is_plain;
 use crate::header::SectionHeader;
 use crate::headers::Headers;
 use crate::symbol::Reloc;
@@ -48,19 +49,26 @@ fn is_inside(offset: u64, width: u64, size: u64) -> bool
     width <= size && offset <= size - width
 }
 
-/// Whether a relocation names a symbol, and its field lies in a section of this size.
+/// Whether the field of a relocation lies in a section of this size, where its type is one that is read.
 #[inline(always)]
-fn is_reloc(reloc: Reloc, symbols: u64, target_size: u64) -> bool
-    ensures { IsTrue result ↔ IsRelocOf reloc symbols target_size }
+fn has_field(reloc: Reloc, size: u64) -> bool
+    ensures { IsTrue result ↔ (IsTrue (is_read reloc.kind) → reloc.offset + field_size reloc.kind ≤ size) }
 {
-    u64::from(reloc.sym) < symbols
-        && match reloc.kind {
-            R_X86_64_64 => is_inside(reloc.offset, 8, target_size),
-            R_X86_64_PC32 | R_X86_64_PLT32 | R_X86_64_32 | R_X86_64_32S => {
-                is_inside(reloc.offset, 4, target_size)
-            }
-            _ => true,
+    match reloc.kind {
+        R_X86_64_64 => is_inside(reloc.offset, 8, size),
+        R_X86_64_PC32 | R_X86_64_PLT32 | R_X86_64_32 | R_X86_64_32S => {
+            is_inside(reloc.offset, 4, size)
         }
+        _ => true,
+    }
+}
+
+/// Whether a relocation names a symbol, and its field lies in the section that it changes, if that isn't compressed.
+#[inline(always)]
+fn is_reloc(reloc: Reloc, symbols: u64, target: &SectionHeader) -> bool
+    ensures { IsTrue result ↔ IsRelocIn reloc symbols target.now }
+{
+    u64::from(reloc.sym) < symbols && (!is_plain(target) || has_field(reloc, target.size))
 }
 
 /// Whether each relocation of a section is one, in ascending order.
@@ -73,11 +81,11 @@ fn check_relocs_of(symbols: &Symbols, i: u32, h: &SectionHeader) -> Result<(), E
     ensures err { IfErr result (FirstBelow (IsReloc (symbols_file symbols.now) i)
         (RelocFault (symbols_file symbols.now) i) (h.now.size / 24)) }
 {
-    let target_size = symbols.headers.get(h.info).size;
+    let target = symbols.headers.get(h.info);
     let count = (h.size / 24) as u32;
     for k in 0..count {
         let reloc = nth_reloc(symbols.headers.bytes, h, k);
-        if !is_reloc(reloc, symbols.count, target_size) {
+        if !is_reloc(reloc, symbols.count, &target) {
             return Err(ElfFault::BadReloc { sec: i, index: k });
         }
     }

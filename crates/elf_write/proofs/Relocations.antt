@@ -1,6 +1,6 @@
 -- The relocations of the object with the new sections, and its text.
 use Rattle.std.proofs.Common.{◌≡◌, inl, inr, ℕ, zero, suc, ◌+◌, ◌-◌, ◌*◌, ◌/◌, ◌<◌, ◌≤◌, List, ◌++◌, length, get_or, map, refl, sym, ap, subst, ◌∙◌, arith}
-use Rattle.std.specs.Prelude.{All, IsTrue, slice_index}
+use Rattle.std.specs.Prelude.{All, IsTrue, bit_and, slice_index}
 use Rattle.std.specs.List.{range_with_len, sum_by}
 use Rattle.std.proofs.lemmas.Bool.{cases_eq, cases_lt}
 use Rattle.std.proofs.lemmas.Bool.Decides.{nat_tests}
@@ -10,14 +10,14 @@ use Rattle.elf_objects.specs.Contents.{elf_of, section_entry, symbol_entry}
 use Rattle.elf_objects.specs.Elf.{SectionEntry}
 use Rattle.elf_objects.specs.File.{name_table, section_count, section_header}
 use Rattle.elf_objects.specs.Header.{is_text_header}
-use Rattle.elf_objects.specs.declared.TheConstants.{SHT_NULL, SHT_PROGBITS, SHT_STRTAB, SHT_RELA}
+use Rattle.elf_objects.specs.declared.TheConstants.{SHF_COMPRESSED, SHT_NULL, SHT_PROGBITS, SHT_STRTAB, SHT_RELA}
 use Rattle.elf_objects.specs.Object.{IsWellFormed}
 use Rattle.elf_objects.specs.Sections.{file_text_bytes, text_size}
-use Rattle.elf_objects.specs.Symbols.{HasRelocs, IsReloc, IsRelocOf}
+use Rattle.elf_objects.specs.Symbols.{HasRelocs, IsReloc, IsRelocIn}
 use Rattle.elf_objects.specs.Table.{reloc_at, reloc_of, symbol_count}
 use Rattle.elf_objects.specs.declared.header.SectionHeader.{SectionHeader}
 use Rattle.elf_objects.specs.declared.symbol.Reloc.{Reloc}
-use Rattle.elf_write.specs.Added.{IsAddable, relocs_in, sizes}
+use Rattle.elf_write.specs.Added.{IsAddable, IsRelocOf, relocs_in, sizes}
 use Rattle.elf_write.specs.Layout.{NewEntry, header_for}
 use Rattle.elf_write.proofs.Cases.{first_kind, keeps, table_kind}
 use Rattle.elf_write.proofs.Contents.{Lies, grows, lies_at}
@@ -90,10 +90,17 @@ target_size b new q hp np nm place name o w some t low high =
           omega arith
     ]
 
-IsRelocOf-more : (r : Reloc) (n m s t : ℕ) → n ≡ m → s ≤ t → IsRelocOf r n s → IsRelocOf r m t
-IsRelocOf-more r n m s t e h f = record {
+-- a relocation that the object had is one of as many symbols, in a section that is as large and isn't compressed now
+IsRelocIn-kept : (r : Reloc) (n m : ℕ) (h g : SectionHeader) → n ≡ m → g.flags ≡ h.flags → h.size ≤ g.size → IsRelocIn r n h → IsRelocIn r m g
+IsRelocIn-kept r n m h g e same t f = record {
   symbol = omega (arith, f.symbol);
-  field = λ read. (let g = f.field read in omega arith);
+  field = λ plain read. (let inside = f.field (subst (λ (flags : ℕ). bit_and flags SHF_COMPRESSED ≡ 0) same plain) read in omega arith);
+}
+
+IsRelocIn-new : (r : Reloc) (n m s : ℕ) (g : SectionHeader) → n ≡ m → s ≤ g.size → IsRelocOf r n s → IsRelocIn r m g
+IsRelocIn-new r n m s g e t f = record {
+  symbol = omega (arith, f.symbol);
+  field = λ plain read. (let inside = f.field read in omega arith);
 }
 
 length-symbols : (b : List ℕ) → length (elf_of b).symbols ≡ symbol_count b
@@ -113,7 +120,8 @@ relocs_of_old b new q hp np nm place name o w some ok i h kind k lt =
     let low = links.target in
     let g = grows b new q hp np nm place name o w some (section_header b i).info links.exists (λ z. omega arith) in
     let same = reloc-output b new q hp np nm place name o w i k h was inside in
-    rw (is, same) (IsRelocOf-more (reloc_of b (section_header b i) k) (symbol_count b) (symbol_count q) (section_header b (section_header b i).info).size (section_header q (section_header b i).info).size (sym sc) g had)
+    let kept = keeps b new q hp np nm place name o (section_header b i).info links.exists in
+    rw (is, same) (IsRelocIn-kept (reloc_of b (section_header b i) k) (symbol_count b) (symbol_count q) (section_header b (section_header b i).info) (section_header q (section_header b i).info) (sym sc) kept.flags g had)
 
 relocs_of_added : (b : List ℕ) (new : List NewEntry) (q : List ℕ) (hp np : ℕ) (nm : List ℕ) (place name : ℕ → ℕ)
     → Output b new q hp np nm place name → IsWellFormed b → 0 < length new → All (IsAddable (elf_of b) new) new
@@ -132,7 +140,7 @@ relocs_of_added b new q hp np nm place name o w some ok n i h e kind k lt =
     let said : IsRelocOf (get_or (relocs_in one.body) k d) (length (elf_of b).symbols) (slice_index (sizes (elf_of b) new) one.info) = r.relocs k d (omega arith) in
     let at = relocs_in-at one.body k d inside in
     let same = reloc-new b new q hp np nm place name o n k h inside in
-    rw (is, same) (IsRelocOf-more d (length (elf_of b).symbols) (symbol_count q) (slice_index (sizes (elf_of b) new) one.info) (section_header q one.info).size (length-symbols b ∙ sym sc) size
+    rw (is, same) (IsRelocIn-new d (length (elf_of b).symbols) (symbol_count q) (slice_index (sizes (elf_of b) new) one.info) (section_header q one.info) (length-symbols b ∙ sym sc) size
     (subst (λ (x : Reloc). IsRelocOf x (length (elf_of b).symbols) (slice_index (sizes (elf_of b) new) one.info)) at said))
 
 pub relocs-output : (b : List ℕ) (new : List NewEntry) (q : List ℕ) (hp np : ℕ) (nm : List ℕ) (place name : ℕ → ℕ)

@@ -325,9 +325,13 @@ relocs b secs t x i h kind k lt =
     let r = reloc_read b secs t x i k h e inside in
     let below = renumbered_below (plan b secs).locals (length secs) (reloc_of b (section_header b i) k).sym (symbol_count b) was.symbol in
     let target = ((x.well.links i h).relocs e).exists in
-    let grows = (keep b secs t x (section_header b i).info target).size in
+    let kept = keep b secs t x (section_header b i).info target in
+    let grows = kept.size in
     let n = symbols_count b secs t x in
-    rw (is, r) (record { symbol = omega arith; field = λ read. (let f = was.field read in omega arith) })
+    rw (is, r) (record {
+      symbol = omega arith;
+      field = λ plain read. (let f = was.field (subst (λ (flags : ℕ). bit_and flags SHF_COMPRESSED ≡ 0) kept.flags plain) read in omega arith);
+    })
 
 none_text_size : (g : SectionHeader) → g.kind ≢ SHT_PROGBITS → text_size g ≡ 0
 none_text_size g none = grind (arith, nat_tests)

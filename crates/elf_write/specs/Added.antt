@@ -1,12 +1,12 @@
 -- Which sections may be added to an object, and the object with them.
-use Rattle.std.specs.Prelude.{◌≡◌, ◌≢◌, ◌⊎◌, ◌<◌, ◌≤◌, ◌+◌, ◌*◌, ◌/◌, ◌%◌, ◌^◌, ◌==◌, ◌&&◌, ℕ, List, [], ◌∷◌, ◌++◌, length, map, bit_and, slice_index, All, AllPairs, Option, Some, None, if◌then◌else◌}
+use Rattle.std.specs.Prelude.{◌≡◌, ◌≢◌, ◌⊎◌, ◌<◌, ◌≤◌, ◌+◌, ◌*◌, ◌/◌, ◌%◌, ◌^◌, ◌==◌, ◌&&◌, ℕ, List, [], ◌∷◌, ◌++◌, length, map, bit_and, slice_index, All, AllPairs, Option, Some, None, if◌then◌else◌, IsTrue}
 use Rattle.std.specs.List.{enumerate_from, find, range_with_len}
 use Rattle.elf_objects.specs.declared.symbol.Reloc.{Reloc}
 use Rattle.elf_objects.specs.Contents.{relocs_at}
 use Rattle.elf_objects.specs.Elf.{Elf, SectionEntry}
 use Rattle.elf_objects.specs.declared.TheConstants.{SHT_NULL, SHT_PROGBITS, SHT_SYMTAB, SHT_STRTAB, SHT_RELA, SHT_NOBITS, SHT_REL, SHT_GROUP, SHT_SYMTAB_SHNDX, SHF_EXECINSTR, SHF_COMPRESSED}
 use Rattle.elf_objects.specs.Sections.{link_of}
-use Rattle.elf_objects.specs.Symbols.{IsRelocOf}
+use Rattle.elf_objects.specs.Symbols.{field_size, is_read}
 use Rattle.elf_objects.specs.Table.{reloc_at}
 use Rattle.elf_write.specs.Layout.{NewEntry, Input, aligned, all_names, end_of, extended, headers_place, long_count, names_place}
 use Rattle.elf_write.specs.Object.{appended_to, input_of_object}
@@ -41,6 +41,11 @@ sizes o new = map (λ s. s.size) o.sections ++ map (λ e. length e.body) new
 -- the relocations in a body
 abbrev pub relocs_in : List ℕ → List Reloc
 relocs_in body = map (λ k. reloc_at body (24 * k)) (range_with_len 0 (length body / 24))
+
+-- a relocation names one of so many symbols, and its field lies in a section of this size
+pub record IsRelocOf (r : Reloc) (symbols target_size : ℕ) : Type 0 where
+  pub symbol : r.sym < symbols
+  pub field : IsTrue (is_read r.kind) → r.offset + field_size r.kind ≤ target_size
 
 -- the relocations of a section that has none
 pub record IsRelocs (o : Elf) (new : List NewEntry) (e : NewEntry) : Type 0 where

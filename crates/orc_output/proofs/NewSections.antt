@@ -10,8 +10,7 @@ use Rattle.elf_objects.specs.declared.symbol.Reloc.{Reloc}
 use Rattle.elf_objects.specs.Elf.{Elf, SectionEntry}
 use Rattle.elf_objects.specs.declared.TheConstants.{SHF_ALLOC, SHF_INFO_LINK, SHT_PROGBITS, SHT_RELA}
 use Rattle.elf_objects.specs.Sections.{link_of}
-use Rattle.elf_objects.specs.Symbols.{IsRelocOf}
-use Rattle.elf_write.specs.Added.{IsAddable, relocs_in, sizes}
+use Rattle.elf_write.specs.Added.{IsAddable, relocs_in, sizes, IsRelocOf}
 use Rattle.elf_write.specs.Layout.{NewEntry}
 use Rattle.orc_bytes.specs.RelocBytes.{bytes_of_reloc}
 use Rattle.orc_output.proofs.Known.{Known}

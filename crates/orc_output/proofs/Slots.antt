@@ -13,9 +13,8 @@ use Rattle.elf_objects.specs.declared.symbol.Reloc.{Reloc}
 use Rattle.elf_objects.specs.Elf.{Elf}
 use Rattle.elf_objects.specs.Contents.{section_symbol_of}
 use Rattle.elf_objects.specs.declared.TheConstants.{R_X86_64_PC32}
-use Rattle.elf_objects.specs.Symbols.{IsRelocOf}
 use Rattle.elf_objects.specs.Table.{reloc_at}
-use Rattle.elf_write.specs.Added.{relocs_in}
+use Rattle.elf_write.specs.Added.{relocs_in, IsRelocOf}
 use Rattle.elf_write.proofs.Says.{map-same}
 use Rattle.orc_bytes.specs.RelocBytes.{bytes_of_reloc, IsReloc}
 use Rattle.orc_bytes.specs.RowBytes.{bytes_of_row}
