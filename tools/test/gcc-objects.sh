@@ -1,7 +1,8 @@
 #!/usr/bin/env bash
 # Checks what gcc compiles from tools/test/gcc-objects/*.c, as the kernel's code is compiled, once as it is and once with frame
 # pointers: each object is accepted, and at each address of each function the frame's top, and where rbp is saved, are those
-# that gcc tells in its own .eh_frame. What `dump` prints of a row is what `readelf` shows of its six bytes.
+# that gcc tells in its own .eh_frame. What `dump` prints of a row is what `readelf` shows of its six bytes. With debugging
+# information in compressed sections each has the same rows, though relocations there lie behind what the sections hold.
 set -eu
 . "$(dirname "$0")/../lib/prepare.sh"
 . "$root/tools/lib/compile.sh"
@@ -23,3 +24,10 @@ for object in *.o; do
     names+=("$name")
 done
 python3 "$here/gcc-objects/compare.py" "${names[@]}"
+mkdir compressed
+compile_all compressed -g -gz
+for name in "${names[@]}"; do
+    "$program" check "compressed/$name.o" checked >lines || { echo "gcc objects: $name, compressed: $(head -n 1 lines)"; exit 1; }
+    "$program" dump checked | cmp - "$name.rows"
+done
+echo "gcc objects: ${#names[@]} have the same rows with compressed debugging information"
