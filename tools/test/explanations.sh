@@ -24,6 +24,7 @@ topics_of_manual() {
 title_of() {
     case $1 in
     [0-9]*) echo "rule $1: $2" ;;
+    file-*) echo "objtool: $2" ;;
     *) echo "refused: $2" ;;
     esac
 }

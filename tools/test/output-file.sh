@@ -55,13 +55,19 @@ kept() {
     [ "$out" = place/in.o ] || cmp -s place/in.o in.o || failed "$1: IN changed"
     [ "$out" != place/link.o ] || [ -L "$out" ] || failed "$1: the link is gone"
 }
+# tells_fault OUT: the last run told that OUT failed, and why.
+tells_fault() { [[ $told = "file fault: $1"$'\n'"objtool: $1: "?* ]]; }
+# tells_standing: the last run told that OUT stands from before, where it does, and else not.
+tells_standing() {
+    if [ -n "$before" ]; then [ "${told##*$'\n'}" = "objtool: $out stands from before this run" ]; else [[ $told != *" stands from before this run"* ]]; fi
+}
 # answered WHAT [STATUS]: all was done, or OUT is told to have failed and is as before; nothing is left, but where nothing can be removed.
 answered() {
     kept "$1"
     case $status in
     0) is_new || failed "$1: status 0, and OUT isn't the new file" ;;
     4) is_before || failed "$1: status 4, and OUT changed"
-       [ "$told" = "file fault: $out" ] || failed "$1: told '$told'" ;;
+       tells_fault "$out" && tells_standing || failed "$1: told '$told'" ;;
     *) failed "$1: status $status and '$told'" ;;
     esac
     [ "$status" = "${2:-$status}" ] || failed "$1: status $status"
@@ -70,7 +76,7 @@ answered() {
 # runs WORD..: runs the command on IN and OUT behind these words.
 runs() { told=$("$@" "$program" "$command" "$input" "$out" 2>&1) && status=0 || status=$?; }
 # faulted WHAT OUT: the last run ended with status 4, and told that OUT failed.
-faulted() { [ "$status" = 4 ] && [ "$told" = "file fault: $2" ] || failed "$1: status $status and '$told'"; }
+faulted() { [ "$status" = 4 ] && tells_fault "$2" || failed "$1: status $status and '$told'"; }
 
 # Where OUT is put.
 for command in check sites cfi merge; do
@@ -187,7 +193,7 @@ faulted "/dev/full" "$out"
 lay old
 input=/dev/zero
 runs env
-advice='objtool: see objtool explain longer'
+advice="objtool: see objtool explain longer"$'\n'"objtool: $out stands from before this run"
 [ "$status" = 2 ] && [ "$told" = "refused: /dev/zero is longer than 67108864 bytes"$'\n'"$advice" ] && is_before || failed "/dev/zero: status $status and '$told'"
 "$program" dump wanted.check >/dev/full && status=0 || status=$?
 [ "$status" = 5 ] || failed "dump, whose lines fail: status $status"

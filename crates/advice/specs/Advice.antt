@@ -64,6 +64,6 @@ abbrev pub IsUsageLine : List Word → Option (List ℕ) → Type 0
 IsUsageLine words (Some line) = TellsFault words line
 IsUsageLine words None = is_ok (meaning words) ≡ true
 
--- the line on a refusal: which topic explains it
+-- the line on a refusal, or on a file that fails: which topic explains it
 abbrev pub refusal_advice : List ℕ → List ℕ
 refusal_advice topic = codes "objtool: see objtool explain " ++ topic

@@ -1,5 +1,5 @@
-//! What helps with words at fault, refusals and files that fail: the known word that was meant, the topic that explains, the name that is
-//! missing, the file that wasn't written.
+//! What helps with words at fault, refusals and files that fail: the known word that was meant, the name that is missing, the topic that
+//! explains, and that a file stands from before.
 #![tactic(auto)]
 
 mod files;

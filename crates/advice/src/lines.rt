@@ -162,8 +162,8 @@ pub fn usage_line(alloc: Global, words: &[String]) -> Result<Option<String>, All
     }
 }
 
-/// The line that helps with a refusal, found by the line that told it: which topic explains it. There is none where no topic does.
-/// An error is want of memory.
+/// The line that helps with a refusal, or with a file that fails, found by the line that told it: which topic explains it. There is none
+/// where no topic does. An error is want of memory.
 pub fn refusal_line(alloc: Global, line: &[u8]) -> Result<Option<String>, AllocError>
     ensures { IfOk result (λ said. option_map string_bytes said ≡ option_map refusal_advice (topic_of line.now)) }
 {

@@ -2,14 +2,14 @@
 //! is at fault.
 #![tactic(auto)]
 
+mod file_state;
 mod last_line;
-mod standing;
 
 ghost use Rattle.std.specs.Prelude.{◌≡◌};
 ghost use Rattle.objtool_cli.specs.Status.{exit_code};
 
+use crate::file_state::regular_file;
 use crate::last_line::LastLine;
-use crate::standing::standing;
 use advice::{fault_line, out_name, refusal_line, standing_line, usage_line};
 use objtool_cli::{Status, run};
 use ot_files::{FileFault, StdFiles, StdSink};
@@ -112,7 +112,7 @@ fn main(rt: HostRuntime) -> ExitCode {
     };
     keep_blocks(&rt, alloc, &words);
     let out_name = out_name(alloc, &words).unwrap_or(None);
-    let before = out_name.and_then(|name| standing(&rt, name));
+    let before = out_name.and_then(|name| regular_file(&rt, name));
     let mut files = StdFiles::new(alloc, &rt);
     let mut out = LastLine::new(alloc, StdSink::new(&rt));
     let status = run(alloc, &words, &mut files, &mut out);
@@ -124,7 +124,7 @@ fn main(rt: HostRuntime) -> ExitCode {
     }
     if let (Some(name), Some(before)) = (out_name, before)
         && status != Status::Done
-        && standing(&rt, name) == Some(before)
+        && regular_file(&rt, name) == Some(before)
     {
         tell_standing(&rt, alloc, name);
     }

@@ -41,16 +41,23 @@ def state_of(folder: Path) -> dict[str, object]:
 
 # How a claim begins that tells a line of standard error; these stand last.
 ERROR = "standard error: "
-# What stands on standard error where a case doesn't tell it: at words at fault the advice, and at a refusal mostly the topic.
-REFUSED, USAGE = 2, 3
-ADVICE = {REFUSED: re.compile(r"(objtool: see objtool explain [\w-]+)?"), USAGE: re.compile(r"objtool: .+ objtool --help lists the commands")}
+# What stands on standard error where a case doesn't tell it: at words at fault the advice, at a refusal mostly the topic, at a file
+# that fails the reason and mostly its topic; and then, where OUT was there before, that it stands.
+REFUSED, USAGE, FAULT = 2, 3, 4
+TOPIC = r"(objtool: see objtool explain [\w-]+\n)?"
+ADVICE = {REFUSED: TOPIC, USAGE: r"objtool: (.+ objtool --help lists the commands|[A-Z]+ is missing: objtool .+)\n", FAULT: r"objtool: \S+: .+\n" + TOPIC}
+STANDS = r"objtool: \S+ stands from before this run\n"
+
+
+def out_of(step: Step) -> set[str]:
+    """OUT of a command that writes."""
+    names = [word for word in step.words[1:] if not word.startswith("-")]
+    return {names[1]} if WRITING.intersection(step.words[:1]) and len(names) > 1 else set()
 
 
 def written_by(step: Step, status: int) -> set[str]:
-    """The file that the command has to write: OUT of one that writes and is done."""
-    names = [word for word in step.words[1:] if not word.startswith("-")]
-    is_done = WRITING.intersection(step.words[:1]) and status == 0 and len(names) > 1
-    return {names[1]} if is_done else set()
+    """The file that the command has to write: OUT of one that is done."""
+    return out_of(step) if status == 0 else set()
 
 
 def change_lines(before: dict, after: dict, written: set[str]) -> list[str]:
@@ -77,11 +84,13 @@ def run_step(program: str, step: Step, folder: Path) -> tuple[int, bytes, bytes]
     if limit is not None:
         # Python ignores the signal of a file that would grow too long, and so does the program then.
         words = ["prlimit", f"--fsize={limit}", *words]
-    with tempfile.TemporaryFile() as printed, tempfile.TemporaryFile() as complained, open(step.onto or os.devnull, "wb") as onto:
-        how = {"stdin": subprocess.DEVNULL, "stdout": onto if step.onto else printed, "stderr": complained, "restore_signals": False}
+    # The standard error is a pipe, which a limit on files doesn't cut; it gets a few lines.
+    with tempfile.TemporaryFile() as printed, open(step.onto or os.devnull, "wb") as onto:
+        how = {"stdin": subprocess.DEVNULL, "stdout": onto if step.onto else printed, "stderr": subprocess.PIPE, "restore_signals": False}
         with subprocess.Popen(words, cwd=folder, **how) as running:
             signal.alarm(SECONDS)
             try:
+                complained = running.stderr.read()
                 status = running.wait()
             except TimeoutError:
                 running.kill()
@@ -89,16 +98,21 @@ def run_step(program: str, step: Step, folder: Path) -> tuple[int, bytes, bytes]
             finally:
                 signal.alarm(0)
         printed.seek(0)
-        complained.seek(0)
-        return status if status >= 0 else 128 - status, printed.read(), complained.read()
+        return status if status >= 0 else 128 - status, printed.read(), complained
 
 
-def error_lines(step: Step, status: int, lines: list[str]) -> list[str]:
+def advice_at(step: Step, status: int, folder: Path) -> str:
+    """What may come by standard error where the case doesn't tell it."""
+    stands = status and any((folder / name).is_file() for name in out_of(step))
+    return ADVICE.get(status, "") + (STANDS if stands else "")
+
+
+def error_lines(step: Step, lines: list[str], advice: str) -> list[str]:
     """What came by standard error, where it isn't what has to come where the case doesn't tell it."""
     is_told = any(claim.startswith(ERROR) for claim in step.claims)
-    if not is_told and status in ADVICE and ADVICE[status].fullmatch("\n".join(lines)):
+    if not is_told and re.fullmatch(advice, "".join(f"{line}\n" for line in lines)):
         return []
-    return [f"[{ERROR}{line}]" for line in lines] or (["[nothing by standard error]"] if status == USAGE else [])
+    return [f"[{ERROR}{line}]" for line in lines] or ([] if is_told else ["[nothing by standard error]"])
 
 
 def expected_of(step: Step) -> list[str]:
@@ -119,7 +133,7 @@ def found_of(program: str, step: Step, folder: Path, before: dict, after: dict) 
     if status and not any(claims.STATUS.fullmatch(claim) for claim in step.claims):
         lines.append(f"[status {status}]")
     lines += change_lines(before, after, written_by(step, status))
-    return lines + error_lines(step, status, lines_of(complained))
+    return lines + error_lines(step, lines_of(complained), advice_at(step, status, folder))
 
 
 def difference(program: str, case: Case) -> str:

@@ -1,11 +1,11 @@
-//! Whether the file that a command was to write is the one that stood there before.
+//! How a file stands, by which it is told whether it was written.
 
 use std::fs;
 use std::os::unix::fs::MetadataExt;
 
 /// A regular file as it stands, as far as it can be told without opening it.
 #[derive(Clone, Copy, PartialEq, Eq)]
-pub(crate) struct Standing {
+pub(crate) struct FileState {
     /// Its device and its number there.
     node: (u64, u64),
     size: u64,
@@ -14,9 +14,9 @@ pub(crate) struct Standing {
 }
 
 /// The regular file that has a name, where one has.
-pub(crate) fn standing(rt: &HostRuntime, name: &str) -> Option<Standing> {
+pub(crate) fn regular_file(rt: &HostRuntime, name: &str) -> Option<FileState> {
     match fs::metadata(rt, name) {
-        Ok(said) if said.is_file() => Some(Standing {
+        Ok(said) if said.is_file() => Some(FileState {
             node: (said.dev(), said.ino()),
             size: said.size(),
             changed: (said.ctime(), said.ctime_nsec()),
