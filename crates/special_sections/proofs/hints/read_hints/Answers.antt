@@ -1,4 +1,4 @@
-use Rattle.std.proofs.Common.{Bool, ap, subst}
+use Rattle.std.proofs.Common.{Bool, subst}
 use Rattle.std.proofs.Math.Path.{fun_ext}
 use Rattle.std.proofs.lemmas.Result.{err_from_is_err_and}
 use Rattle.ot_base.specs.declared.place.Place.{Place}
