@@ -36,3 +36,4 @@ pub mod EdgesNamed
 pub mod KeptHave
 pub mod KeptNamed
 pub mod RowsNamed
+pub mod WorkedRun

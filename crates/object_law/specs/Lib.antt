@@ -5,3 +5,4 @@ pub mod Rows
 pub mod EntryLaws
 pub mod Named
 pub mod SymbolLaws
+pub mod WorkedObject

@@ -6,3 +6,4 @@ pub mod entry_laws;
 pub mod flow_laws;
 pub mod object_laws;
 pub mod symbol_laws;
+pub mod worked_object;

@@ -1,0 +1,87 @@
+-- A run of the worked object's program, which is computed.
+use Rattle.std.proofs.Common.{◌≡◌, ℕ, zero, suc, ◌+◌, ◌<◌, ◌≤◌, ◌^◌, nat_lt, Bool, true, false, ◌&&◌, ◌||◌, List, [], ◌∷◌, None, Contains, All, ap, refl, inr, arith, lit<, lit≤}
+use Rattle.std.proofs.lemmas.List.Elements.{All-contains}
+use Rattle.std.proofs.lemmas.Bool.{ltb-true}
+use Rattle.elf_objects.specs.Below.{least_below}
+use Rattle.elf_objects.specs.Number.{half}
+use Rattle.flow_defs.specs.Arrival.{after, around, arrive, decoded_insn, hint_of, insn_of_object, is_at_end, is_dead_end, makes_room, own_hint_of}
+use Rattle.flow_defs.specs.Code.{points_of_object, texts_of}
+use Rattle.flow_defs.specs.Edges.{goes, goes_on}
+use Rattle.flow_defs.specs.Hints.{save_of}
+use Rattle.flow_defs.specs.Marks.{calls_into_function, has_bad_target, has_target_in_site}
+use Rattle.flow_defs.specs.Owners.{is_entry, is_unchecked_owner, unchecked_start}
+use Rattle.flow_defs.specs.Program.{entries_of, graph_of, never_returns_by, previous_of, program_of, returning_graph, text_sections_of, unsized_of}
+use Rattle.flow_defs.specs.Returning.{returns_at_last}
+use Rattle.flow_defs.specs.Roles.{returns_through, role_of, table_of_point}
+use Rattle.symbols_relocs.specs.Covers.{is_linked, is_uncovered}
+use Rattle.symbols_relocs.specs.NamedCode.{returning_at}
+use Rattle.flow_defs.specs.Switching.{insn_by}
+use Rattle.flow_defs.specs.Sites.{site_holding, sites_of}
+use Rattle.flow_defs.specs.Targets.{destination}
+use Rattle.flow_defs.specs.Ways.{branch_way}
+use Rattle.special_sections.specs.Nested.{nested}
+use Rattle.x86_decode.specs.Action.{action_of}
+use Rattle.x86_decode.specs.Decoding.{decoded}
+use Rattle.x86_decode.specs.Operation.{address_loaded, arithmetic, group_5, group_7, jump_table, loaded, operation, operation_by, pop_operand, push_operand, stored, subtracted_by, subtracted_from}
+use Rattle.x86_decode.specs.Reading.{finished, modrm_at, modrm_fits, opcode_at, operands_at, operands_by, prefixes_at, reading, rest_at, rex_at, sib_at, map_at, opcode_in, two_byte_at, two_byte_in}
+use Rattle.x86_map.specs.Form.{look_form}
+use Rattle.x86_map.specs.OpcodeMap.{added_forms, base_forms, look}
+use Rattle.x86_text.specs.Code.{code_of}
+use Rattle.symbols_relocs.specs.NamedCode.{is_in_named_code}
+use Rattle.flow_defs.specs.Faults.{flow_faults}
+use Rattle.machine_defs.specs.declared.flow.EdgeKind.TheVariants.{Next}
+use Rattle.machine_defs.specs.Program.{TextSection}
+use Rattle.machine_defs.specs.Machine.{At, IsOutside}
+use Rattle.machine_defs.specs.Run.{Run, started}
+use Rattle.machine_defs.specs.Run as run
+use Rattle.machine_defs.proofs.WorkedRun as steps
+use Rattle.unwinding_law.proofs.Elements.{one}
+use Rattle.unwinding_law.proofs.Lists.{all_of, each_passes}
+use Rattle.state_defs.specs.Effect.{IsInStack}
+use Rattle.state_defs.specs.Frame.{Unsaved}
+use Rattle.std.specs.List.{AllByRecursion}
+use Rattle.alternatives.specs.declared.texts.SectionText.{SectionText}
+use Rattle.flow_defs.specs.Code.{body_of}
+use Rattle.ot_base.specs.NameLists.{NameLists}
+use Rattle.object_law.specs.Flows.{HasBytes}
+use Rattle.object_law.specs.WorkedObject.{worked, after_push, at_entry, bases, stack, standing, NamesNeither}
+
+abbrev AreBytes : SectionText → Type 0
+AreBytes t = AllByRecursion (λ byte. byte < 256) t.text.bytes
+
+outside : (lists : NameLists) → IsOutside (program_of worked lists) bases 0x5677
+unfolding action_of address_loaded after around destination arithmetic arrive branch_way calls_into_function code_of decoded decoded_insn entries_of finished added_forms base_forms goes goes_on graph_of group_5 group_7 half has_bad_target has_target_in_site hint_of insn_of_object is_at_end is_dead_end is_entry is_unchecked_owner jump_table least_below loaded look look_form makes_room modrm_at modrm_fits nested never_returns_by opcode_at operands_at operands_by operation operation_by points_of_object pop_operand prefixes_at previous_of program_of push_operand reading rest_at returning_graph returns_at_last rex_at role_of save_of sib_at site_holding sites_of stored subtracted_by subtracted_from table_of_point text_sections_of texts_of map_at opcode_in two_byte_at two_byte_in unchecked_start unsized_of own_hint_of returns_through returning_at insn_by is_linked is_uncovered is_in_named_code
+outside lists t c = inr (All-contains (λ (t : TextSection). bases t.sec + t.size ≤ 0x5677) (program_of worked lists).texts t (one (λ (t : TextSection). bases t.sec + t.size ≤ 0x5677) (record { sec = 1; size = 8 }) (lit≤ tt)) c)
+
+are_bytes : All (λ b. b < 256) stack.bytes
+are_bytes = all_of (λ b. b < 256) stack.bytes (λ x c. ltb-true x 256 (each_passes (λ b. nat_lt b 256) stack.bytes x refl c))
+
+in_stack : (point rsp : ℕ) → 0x8000 ≤ rsp → rsp ≤ 0x8010 → IsInStack (standing point rsp).core
+in_stack point rsp low high = record { rbp = lit< tt; region = record { below_end = lit< tt; bytes = are_bytes }; above_lo = low; below_hi = high }
+
+starts : (lists : NameLists) → Run (program_of worked lists) bases (At at_entry)
+unfolding action_of address_loaded after around destination arithmetic arrive branch_way calls_into_function code_of decoded decoded_insn entries_of finished added_forms base_forms goes goes_on graph_of group_5 group_7 half has_bad_target has_target_in_site hint_of insn_of_object is_at_end is_dead_end is_entry is_unchecked_owner jump_table least_below loaded look look_form makes_room modrm_at modrm_fits nested never_returns_by opcode_at operands_at operands_by operation operation_by points_of_object pop_operand prefixes_at previous_of program_of push_operand reading rest_at returning_graph returns_at_last rex_at role_of save_of sib_at site_holding sites_of stored subtracted_by subtracted_from table_of_point text_sections_of texts_of map_at opcode_in two_byte_at two_byte_in unchecked_start unsized_of own_hint_of returns_through returning_at insn_by is_linked is_uncovered is_in_named_code
+starts lists =
+    started at_entry
+    (run.at_entry at_entry at_entry (run.outermost 0x5678 0x8010 5 Unsaved false) 0 (0, lit< tt, refl) (0, lit< tt, refl)
+    (record { ra = 0x5678; cfa = 0x8010; bp = 5; shadow = refl; outside = outside lists; pushed = refl; below_hi = lit≤ tt })
+    (record { shadow = refl; cfa = refl; bp = refl })
+    (record { ended = refl; mark = refl; hinted = at_entry; lands = refl; start = refl }))
+    (in_stack 0 0x8008 (lit≤ tt) (lit≤ tt))
+
+-- the code of f isn't loose
+is_firm : (lists : NameLists) → NamesNeither lists → (program_of worked lists).loose 0 ≡ false
+unfolding action_of address_loaded after around destination arithmetic arrive branch_way calls_into_function code_of decoded decoded_insn entries_of finished added_forms base_forms goes goes_on graph_of group_5 group_7 half has_bad_target has_target_in_site hint_of insn_of_object is_at_end is_dead_end is_entry is_unchecked_owner jump_table least_below loaded look look_form makes_room modrm_at modrm_fits nested never_returns_by opcode_at operands_at operands_by operation operation_by points_of_object pop_operand prefixes_at previous_of program_of push_operand reading rest_at returning_graph returns_at_last rex_at role_of save_of sib_at site_holding sites_of stored subtracted_by subtracted_from table_of_point text_sections_of texts_of map_at opcode_in two_byte_at two_byte_in unchecked_start unsized_of own_hint_of returns_through returning_at insn_by is_linked is_uncovered is_in_named_code
+is_firm lists names = ap (λ (b : Bool). (b && true) || false) names.firm
+
+pub runs : (lists : NameLists) → NamesNeither lists → Run (program_of worked lists) bases (At after_push)
+unfolding action_of address_loaded after around destination arithmetic arrive branch_way calls_into_function code_of decoded decoded_insn entries_of finished added_forms base_forms goes goes_on graph_of group_5 group_7 half has_bad_target has_target_in_site hint_of insn_of_object is_at_end is_dead_end is_entry is_unchecked_owner jump_table least_below loaded look look_form makes_room modrm_at modrm_fits nested never_returns_by opcode_at operands_at operands_by operation operation_by points_of_object pop_operand prefixes_at previous_of program_of push_operand reading rest_at returning_graph returns_at_last rex_at role_of save_of sib_at site_holding sites_of stored subtracted_by subtracted_from table_of_point text_sections_of texts_of map_at opcode_in two_byte_at two_byte_in unchecked_start unsized_of own_hint_of returns_through returning_at insn_by is_linked is_uncovered is_in_named_code
+runs lists names =
+    steps.goes (program_of worked lists) bases at_entry after_push Next (starts lists) refl (0, lit< tt, refl)
+    (record { addresses = record { lo = refl; size = refl }; others = λ address h. refl }, refl)
+    (is_firm lists names) (record { ended = refl; mark = refl }) refl (in_stack 1 0x8000 (lit≤ tt) (lit≤ tt))
+
+-- the bytes of its code
+pub has_bytes : HasBytes worked
+unfolding action_of address_loaded after around destination arithmetic arrive branch_way calls_into_function code_of decoded decoded_insn entries_of finished added_forms base_forms goes goes_on graph_of group_5 group_7 half has_bad_target has_target_in_site hint_of insn_of_object is_at_end is_dead_end is_entry is_unchecked_owner jump_table least_below loaded look look_form makes_room modrm_at modrm_fits nested never_returns_by opcode_at operands_at operands_by operation operation_by points_of_object pop_operand prefixes_at previous_of program_of push_operand reading rest_at returning_graph returns_at_last rex_at role_of save_of sib_at site_holding sites_of stored subtracted_by subtracted_from table_of_point text_sections_of texts_of map_at opcode_in two_byte_at two_byte_in unchecked_start unsized_of own_hint_of returns_through returning_at insn_by is_linked is_uncovered is_in_named_code
+has_bytes t c = All-contains AreBytes (texts_of worked) t (one AreBytes (record { sec = 1; text = body_of worked 1 }) (lit< tt, (lit< tt, (lit< tt, (lit< tt, (lit< tt, (lit< tt, (lit< tt, (lit< tt, tt))))))))) c
