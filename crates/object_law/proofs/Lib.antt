@@ -37,3 +37,4 @@ pub mod KeptHave
 pub mod KeptNamed
 pub mod RowsNamed
 pub mod WorkedRun
+pub mod WorkedKept

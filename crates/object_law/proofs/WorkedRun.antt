@@ -37,6 +37,9 @@ use Rattle.machine_defs.specs.Run as run
 use Rattle.machine_defs.proofs.WorkedRun as steps
 use Rattle.unwinding_law.proofs.Elements.{one}
 use Rattle.unwinding_law.proofs.Lists.{all_of, each_passes}
+use Rattle.std.proofs.lemmas.List.Sorted.{IsPermutation-refl}
+use Rattle.table_defs.specs.declared.range.Range.{Range}
+use Rattle.table_defs.specs.Placed.{IsPlacedBy}
 use Rattle.state_defs.specs.Effect.{IsInStack}
 use Rattle.state_defs.specs.Frame.{Unsaved}
 use Rattle.std.specs.List.{AllByRecursion}
@@ -44,7 +47,7 @@ use Rattle.alternatives.specs.declared.texts.SectionText.{SectionText}
 use Rattle.flow_defs.specs.Code.{body_of}
 use Rattle.ot_base.specs.NameLists.{NameLists}
 use Rattle.object_law.specs.Flows.{HasBytes}
-use Rattle.object_law.specs.WorkedObject.{worked, after_push, at_entry, bases, stack, standing, NamesNeither}
+use Rattle.object_law.specs.WorkedObject.{worked, ranges, after_push, at_entry, bases, stack, standing, NamesNeither}
 
 abbrev AreBytes : SectionText → Type 0
 AreBytes t = AllByRecursion (λ byte. byte < 256) t.text.bytes
@@ -85,3 +88,18 @@ runs lists names =
 pub has_bytes : HasBytes worked
 unfolding action_of address_loaded after around destination arithmetic arrive branch_way calls_into_function code_of decoded decoded_insn entries_of finished added_forms base_forms goes goes_on graph_of group_5 group_7 half has_bad_target has_target_in_site hint_of insn_of_object is_at_end is_dead_end is_entry is_unchecked_owner jump_table least_below loaded look look_form makes_room modrm_at modrm_fits nested never_returns_by opcode_at operands_at operands_by operation operation_by points_of_object pop_operand prefixes_at previous_of program_of push_operand reading rest_at returning_graph returns_at_last rex_at role_of save_of sib_at site_holding sites_of stored subtracted_by subtracted_from table_of_point text_sections_of texts_of map_at opcode_in two_byte_at two_byte_in unchecked_start unsized_of own_hint_of returns_through returning_at insn_by is_linked is_uncovered is_in_named_code
 has_bytes t c = All-contains AreBytes (texts_of worked) t (one AreBytes (record { sec = 1; text = body_of worked 1 }) (lit< tt, (lit< tt, (lit< tt, (lit< tt, (lit< tt, (lit< tt, (lit< tt, (lit< tt, tt))))))))) c
+
+-- its section is placed
+abbrev text : Range
+text = record { sec = 1; base = 0x1000; size = 8 }
+
+pub placed : (lists : NameLists) → IsPlacedBy (program_of worked lists) bases ranges
+unfolding action_of address_loaded after around destination arithmetic arrive branch_way calls_into_function code_of decoded decoded_insn entries_of finished added_forms base_forms goes goes_on graph_of group_5 group_7 half has_bad_target has_target_in_site hint_of insn_of_object is_at_end is_dead_end is_entry is_unchecked_owner jump_table least_below loaded look look_form makes_room modrm_at modrm_fits nested never_returns_by opcode_at operands_at operands_by operation operation_by points_of_object pop_operand prefixes_at previous_of program_of push_operand reading rest_at returning_graph returns_at_last rex_at role_of save_of sib_at site_holding sites_of stored subtracted_by subtracted_from table_of_point text_sections_of texts_of map_at opcode_in two_byte_at two_byte_in unchecked_start unsized_of own_hint_of returns_through returning_at insn_by is_linked is_uncovered is_in_named_code
+placed lists = record {
+  placement = record {
+    sections = IsPermutation-refl (program_of worked lists).texts;
+    in_memory = one (λ (range : Range). range.base + range.size < 2 ^ 64) text (lit< tt);
+    apart = λ i j d h k address a b. absurd (omega (arith, h, k));
+  };
+  begin = one (λ (range : Range). range.base ≡ bases range.sec) text refl;
+}

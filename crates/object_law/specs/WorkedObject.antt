@@ -13,6 +13,8 @@ use Rattle.state_defs.specs.Frame.{Unsaved}
 use Rattle.state_defs.specs.Region.{Region, word_at}
 use Rattle.state_defs.specs.Row.{row_of, zero_row}
 use Rattle.state_defs.specs.State.{initial}
+use Rattle.machine_defs.specs.Broken.{IsAccepted}
+use Rattle.machine_defs.specs.Kept.{AreKeptStates}
 use Rattle.machine_defs.specs.Machine.{At, Bases, Standing}
 use Rattle.machine_defs.specs.Program.{below}
 use Rattle.machine_defs.specs.Rows.{placed, rows_of}
@@ -21,6 +23,7 @@ use Rattle.unwinding_law.specs.Worked.{place_at}
 use Rattle.table_defs.specs.declared.frame.Frame.{Frame}
 use Rattle.table_defs.specs.declared.frame.Stop.TheVariants.{Outside}
 use Rattle.table_defs.specs.declared.range.Range.{Range}
+use Rattle.table_defs.specs.Placed.{IsPlacedBy}
 use Rattle.table_defs.specs.Walk.{Walks}
 use Rattle.special_sections.specs.Special.{special_faults}
 use Rattle.alternatives.specs.Faults.{AreRight}
@@ -85,14 +88,18 @@ states q = slice_index_or (Some initial ∷ Some pushed ∷ Some pushed ∷ Some
 abbrev pub rows : List PlacedRow
 rows = placed (place_at 1 0) (row_of initial) ∷ placed (place_at 1 1) (row_of pushed) ∷ placed (place_at 1 7) (row_of initial) ∷ placed (place_at 1 8) zero_row ∷ []
 
--- The object has no faults; these are its program's rows; there is a run of the program that stands after the push; and the walk over
--- the rows from there gives one frame, which goes back to 0x5678 with 0x8010 in rsp and 5 in rbp, and stops outside.
+-- The object has no faults, its program breaks no rule, and these are its states and rows. There is a run of the program that stands
+-- after the push; and the walk over the rows from there gives one frame, which goes back to 0x5678 with 0x8010 in rsp and 5 in rbp,
+-- and stops outside.
 pub record UnwindsWorked (lists : NameLists) : Type 0 where
   pub bytes : HasBytes worked
   pub special : special_faults worked.elf lists ≡ []
   pub sites : AreRight (texts_of worked) (alternatives_of worked) (length (alternatives_of worked))
   pub flow : flow_faults worked ≡ []
   pub ops : let p = program_of worked lists in map (λ q. (p.insn q).op) (below p.count) ≡ Push ∷ Call (pos 0) ∷ Pop ∷ Ret ∷ []
+  pub accepted : IsAccepted (program_of worked lists)
+  pub kept : AreKeptStates (program_of worked lists) states
   pub told : rows_of (program_of worked lists) states ≡ rows
+  pub placed_by : IsPlacedBy (program_of worked lists) bases ranges
   pub run : Run (program_of worked lists) bases (At after_push)
   pub walk : Walks rows ranges (λ address. word_at stack address) (record { ip = 0x1001; sp = 0x8000; bp = 5 }) (record { ra = 0x5678; cfa = 0x8010; bp = 5 } ∷ []) Outside

@@ -27,7 +27,8 @@ use Rattle.x86_text.specs.Code.{code_of}
 use Rattle.symbols_relocs.specs.NamedCode.{is_in_named_code}
 use Rattle.flow_defs.specs.Faults.{flow_faults}
 use Rattle.table_defs.specs.Walk as walk
-use Rattle.object_law.proofs.WorkedRun.{has_bytes, runs}
+use Rattle.object_law.proofs.WorkedRun.{has_bytes, placed, runs}
+use Rattle.object_law.proofs.WorkedKept.{accepted, are_kept}
 use Rattle.object_law.proofs.worked_object.worked_object.Goals as goal
 
 pub returns : goal.returns
@@ -38,7 +39,10 @@ returns c lists names = record {
   sites = λ k h. absurd (omega (arith, h));
   flow = refl;
   ops = refl;
+  accepted = accepted lists names;
+  kept = are_kept lists names;
   told = refl;
+  placed_by = placed lists;
   run = runs lists names;
   walk = walk.goes_on refl refl refl (walk.outside refl);
 }
