@@ -36,5 +36,6 @@ pub mod EdgesNamed
 pub mod KeptHave
 pub mod KeptNamed
 pub mod RowsNamed
+pub mod WorkedFile
 pub mod WorkedRun
 pub mod WorkedKept

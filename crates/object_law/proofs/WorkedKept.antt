@@ -1,6 +1,5 @@
 -- The states that are kept in the worked object's program, and that it breaks no rule.
-use Rattle.std.proofs.Common.{◌≡◌, ℕ, zero, suc, ◌<◌, ◌==◌, Bool, true, false, not, ◌&&◌, ◌||◌, if◌then◌else◌, List, [], ◌∷◌, Option, Some, None, Result, Ok, Err, IfSome, Contains, All, filter, ℤ, refl, sym, ap, ◌∙◌, subst, inl, inr, arith, lit<}
-use Rattle.std.specs.List.{list_any}
+use Rattle.std.proofs.Common.{◌≡◌, ℕ, zero, suc, ◌==◌, Bool, true, false, not, ◌&&◌, ◌||◌, if◌then◌else◌, [], ◌∷◌, Option, Some, None, Result, Ok, Err, IfSome, Contains, All, ℤ, refl, sym, ap, ◌∙◌, subst, inl, inr, lit<}
 use Rattle.std.proofs.lemmas.Bool.{eqb-true}
 use Rattle.std.proofs.lemmas.List.Elements.{All-contains}
 use Rattle.ot_base.specs.declared.place.Place.{Place}
@@ -42,7 +41,7 @@ use Rattle.state_defs.specs.declared.state.State.{State}
 use Rattle.state_defs.specs.declared.state.HintState.{HintState}
 use Rattle.state_defs.specs.State.{initial}
 use Rattle.state_defs.specs.Move.{move}
-use Rattle.state_defs.specs.Row.{row_of, unfit_offset}
+use Rattle.state_defs.specs.Row.{unfit_offset}
 use Rattle.state_defs.specs.Rules.{return_rule}
 use Rattle.machine_defs.specs.Program.{Program, Site, IsPoint, below, edge}
 use Rattle.machine_defs.specs.Kept.{moved_at, loosened, can_go, brought_along, Brings, brought_from, brought, edges_of, is_at_entry, first_state, later_state, kept_or, state_at, Kept, AreKeptStates, is_free}
@@ -60,9 +59,6 @@ each P a b c d rest (suc zero) = b
 each P a b c d rest (suc (suc zero)) = c
 each P a b c d rest (suc (suc (suc zero))) = d
 each P a b c d rest (suc (suc (suc (suc q)))) = rest q
-
-no_state : (o : Option State) (s : State) → None ≡ Some s → o ≡ Some s
-no_state o s e = absurd (let k : ⊥ = cc in k)
 
 abbrev is_no_jump : Role → Bool
 is_no_jump (JumpOut sym) = false
@@ -207,7 +203,7 @@ module _ (lists : NameLists) (names : NamesNeither lists) where
   no_jump q stays (anywhere e) = let k : false ≡ true = subst (λ (r : Role). is_no_jump r ≡ true) e stays in let z : ⊥ = cc in z
 
   not_inside : (q : ℕ) (op : Op) → is_op_inside op ≡ false → is_op_inside (p.insn q).op ≡ true → (p.insn q).op ≡ op → ⊥
-  not_inside q op free inside e = let k : true ≡ false = sym inside ∙ ap is_op_inside e ∙ free in let z : ⊥ = cc in z
+  not_inside q op leads inside e = let k : true ≡ false = sym inside ∙ ap is_op_inside e ∙ leads in let z : ⊥ = cc in z
 
   no_rule : (rule : ℕ) (o : Option ℕ) → o ≡ None → o ≡ Some rule → ⊥
   no_rule rule o e f = let k : None ≡ Some rule = sym e ∙ f in cc

@@ -1,7 +1,9 @@
 -- A run of the worked object's program, which is computed.
-use Rattle.std.proofs.Common.{◌≡◌, ℕ, zero, suc, ◌+◌, ◌<◌, ◌≤◌, ◌^◌, nat_lt, Bool, true, false, ◌&&◌, ◌||◌, List, [], ◌∷◌, None, Contains, All, ap, refl, inr, arith, lit<, lit≤}
-use Rattle.std.proofs.lemmas.List.Elements.{All-contains}
+use Rattle.std.proofs.Common.{◌≡◌, ℕ, zero, suc, List, ◌∷◌, ◌++◌, None, slice_get, nat_le, if◌then◌else◌, leb-true, ◌+◌, ◌-◌, ◌<◌, ◌≤◌, ◌^◌, nat_lt, Bool, true, false, ◌&&◌, ◌||◌, All, ap, refl, inr, arith, lit<, lit≤}
+use Rattle.std.proofs.lemmas.List.Elements.{All-cons, All-contains}
 use Rattle.std.proofs.lemmas.Bool.{ltb-true}
+use Rattle.flow_defs.specs.WorkedObjects.{zeros}
+use Rattle.state_defs.specs.Region.{IsBeside, byte_at}
 use Rattle.elf_objects.specs.Below.{least_below}
 use Rattle.elf_objects.specs.Number.{half}
 use Rattle.flow_defs.specs.Arrival.{after, around, arrive, decoded_insn, hint_of, insn_of_object, is_at_end, is_dead_end, makes_room, own_hint_of}
@@ -28,7 +30,6 @@ use Rattle.x86_map.specs.Form.{look_form}
 use Rattle.x86_map.specs.OpcodeMap.{added_forms, base_forms, look}
 use Rattle.x86_text.specs.Code.{code_of}
 use Rattle.symbols_relocs.specs.NamedCode.{is_in_named_code}
-use Rattle.flow_defs.specs.Faults.{flow_faults}
 use Rattle.machine_defs.specs.declared.flow.EdgeKind.TheVariants.{Next}
 use Rattle.machine_defs.specs.Program.{TextSection}
 use Rattle.machine_defs.specs.Machine.{At, IsOutside}
@@ -56,11 +57,26 @@ outside : (lists : NameLists) → IsOutside (program_of worked lists) bases 0x56
 unfolding action_of address_loaded after around destination arithmetic arrive branch_way calls_into_function code_of decoded decoded_insn entries_of finished added_forms base_forms goes goes_on graph_of group_5 group_7 half has_bad_target has_target_in_site hint_of insn_of_object is_at_end is_dead_end is_entry is_unchecked_owner jump_table least_below loaded look look_form makes_room modrm_at modrm_fits nested never_returns_by opcode_at operands_at operands_by operation operation_by points_of_object pop_operand prefixes_at previous_of program_of push_operand reading rest_at returning_graph returns_at_last rex_at role_of save_of sib_at site_holding sites_of stored subtracted_by subtracted_from table_of_point text_sections_of texts_of map_at opcode_in two_byte_at two_byte_in unchecked_start unsized_of own_hint_of returns_through returning_at insn_by is_linked is_uncovered is_in_named_code
 outside lists t c = inr (All-contains (λ (t : TextSection). bases t.sec + t.size ≤ 0x5677) (program_of worked lists).texts t (one (λ (t : TextSection). bases t.sec + t.size ≤ 0x5677) (record { sec = 1; size = 8 }) (lit≤ tt)) c)
 
-are_bytes : All (λ b. b < 256) stack.bytes
-are_bytes = all_of (λ b. b < 256) stack.bytes (λ x c. ltb-true x 256 (each_passes (λ b. nat_lt b 256) stack.bytes x refl c))
+are_bytes : (word : ℕ) → word < 256 → All (λ b. b < 256) (stack word).bytes
+are_bytes word small = All-cons (λ b. b < 256) word above small (all_of (λ b. b < 256) above (λ x c. ltb-true x 256 (each_passes (λ b. nat_lt b 256) above x refl c)))
+  where
+    above : List ℕ
+    above = zeros 7 ++ 0x78 ∷ 0x56 ∷ zeros 6
 
-in_stack : (point rsp : ℕ) → 0x8000 ≤ rsp → rsp ≤ 0x8010 → IsInStack (standing point rsp).core
-in_stack point rsp low high = record { rbp = lit< tt; region = record { below_end = lit< tt; bytes = are_bytes }; above_lo = low; below_hi = high }
+in_stack : (point rsp word : ℕ) → word < 256 → 0x8000 ≤ rsp → rsp ≤ 0x8010 → IsInStack (standing point rsp word).core
+in_stack point rsp word small low high = record { rbp = lit< tt; region = record { below_end = lit< tt; bytes = are_bytes word small }; above_lo = low; below_hi = high }
+
+-- the push writes the lower word alone
+others : (address : ℕ) → IsBeside 0x8000 8 address → byte_at (stack 7) address ≡ byte_at (stack 0) address
+others address beside = go (nat_le 0x8000 address) refl (address - 0x8000) refl
+  where
+    is : 0x8000 ≤ address → address - 0x8000 ≡ 0 → address ≡ 0x8000
+    is low e = omega (arith, low, e)
+
+    go : (b : Bool) → nat_le 0x8000 address ≡ b → (k : ℕ) → address - 0x8000 ≡ k → (if b then slice_get (stack 7).bytes k else None) ≡ (if b then slice_get (stack 0).bytes k else None)
+    go false e k f = refl
+    go true e zero f = absurd (beside 0 (lit< tt) (is (leb-true 0x8000 address e) f))
+    go true e (suc k) f = refl
 
 starts : (lists : NameLists) → Run (program_of worked lists) bases (At at_entry)
 unfolding action_of address_loaded after around destination arithmetic arrive branch_way calls_into_function code_of decoded decoded_insn entries_of finished added_forms base_forms goes goes_on graph_of group_5 group_7 half has_bad_target has_target_in_site hint_of insn_of_object is_at_end is_dead_end is_entry is_unchecked_owner jump_table least_below loaded look look_form makes_room modrm_at modrm_fits nested never_returns_by opcode_at operands_at operands_by operation operation_by points_of_object pop_operand prefixes_at previous_of program_of push_operand reading rest_at returning_graph returns_at_last rex_at role_of save_of sib_at site_holding sites_of stored subtracted_by subtracted_from table_of_point text_sections_of texts_of map_at opcode_in two_byte_at two_byte_in unchecked_start unsized_of own_hint_of returns_through returning_at insn_by is_linked is_uncovered is_in_named_code
@@ -70,7 +86,7 @@ starts lists =
     (record { ra = 0x5678; cfa = 0x8010; bp = 5; shadow = refl; outside = outside lists; pushed = refl; below_hi = lit≤ tt })
     (record { shadow = refl; cfa = refl; bp = refl })
     (record { ended = refl; mark = refl; hinted = at_entry; lands = refl; start = refl }))
-    (in_stack 0 0x8008 (lit≤ tt) (lit≤ tt))
+    (in_stack 0 0x8008 0 (lit< tt) (lit≤ tt) (lit≤ tt))
 
 -- the code of f isn't loose
 is_firm : (lists : NameLists) → NamesNeither lists → (program_of worked lists).loose 0 ≡ false
@@ -81,8 +97,8 @@ pub runs : (lists : NameLists) → NamesNeither lists → Run (program_of worked
 unfolding action_of address_loaded after around destination arithmetic arrive branch_way calls_into_function code_of decoded decoded_insn entries_of finished added_forms base_forms goes goes_on graph_of group_5 group_7 half has_bad_target has_target_in_site hint_of insn_of_object is_at_end is_dead_end is_entry is_unchecked_owner jump_table least_below loaded look look_form makes_room modrm_at modrm_fits nested never_returns_by opcode_at operands_at operands_by operation operation_by points_of_object pop_operand prefixes_at previous_of program_of push_operand reading rest_at returning_graph returns_at_last rex_at role_of save_of sib_at site_holding sites_of stored subtracted_by subtracted_from table_of_point text_sections_of texts_of map_at opcode_in two_byte_at two_byte_in unchecked_start unsized_of own_hint_of returns_through returning_at insn_by is_linked is_uncovered is_in_named_code
 runs lists names =
     steps.goes (program_of worked lists) bases at_entry after_push Next (starts lists) refl (0, lit< tt, refl)
-    (record { addresses = record { lo = refl; size = refl }; others = λ address h. refl }, refl)
-    (is_firm lists names) (record { ended = refl; mark = refl }) refl (in_stack 1 0x8000 (lit≤ tt) (lit≤ tt))
+    (record { addresses = record { lo = refl; size = refl }; others = others }, refl)
+    (is_firm lists names) (record { ended = refl; mark = refl }) refl (in_stack 1 0x8000 7 (lit< tt) (lit≤ tt) (lit≤ tt))
 
 -- the bytes of its code
 pub has_bytes : HasBytes worked

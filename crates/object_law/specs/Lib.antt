@@ -5,4 +5,5 @@ pub mod Rows
 pub mod EntryLaws
 pub mod Named
 pub mod SymbolLaws
+pub mod WorkedFile
 pub mod WorkedObject

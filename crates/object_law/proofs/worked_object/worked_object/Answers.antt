@@ -1,4 +1,4 @@
-use Rattle.std.proofs.Common.{◌≡◌, ℕ, ◌<◌, List, [], ◌∷◌, Contains, refl, arith, lit<}
+use Rattle.std.proofs.Common.{refl, arith, codes}
 use Rattle.elf_objects.specs.Below.{least_below}
 use Rattle.elf_objects.specs.Number.{half}
 use Rattle.flow_defs.specs.Arrival.{after, around, arrive, decoded_insn, hint_of, insn_of_object, is_at_end, is_dead_end, makes_room, own_hint_of}
@@ -29,14 +29,20 @@ use Rattle.flow_defs.specs.Faults.{flow_faults}
 use Rattle.table_defs.specs.Walk as walk
 use Rattle.object_law.proofs.WorkedRun.{has_bytes, placed, runs}
 use Rattle.object_law.proofs.WorkedKept.{accepted, are_kept}
+use Rattle.machine_defs.specs.Machine.{At}
+use Rattle.object_law.specs.Flows.{ObjectIsInOrder}
+use Rattle.object_law.specs.WorkedObject.{NamesNeither, UnwindsWorked, after_push, bases, ranges, states, worked}
+use Rattle.std.specs.FinSet.{contains-from_list}
+use Rattle.std.specs.Cmp.Lexicographic.{nat_list_cmp_total}
+use Rattle.object_law.specs.ObjectLaws.{ObjectUnwinds}
+use Rattle.ot_base.specs.NameLists.{NameLists, built_in, kernel_loose, kernel_never_returning}
+use Rattle.object_law.proofs.WorkedFile.{is_object}
 use Rattle.object_law.proofs.worked_object.worked_object.Goals as goal
 
-pub returns : goal.returns
+unwinds : ObjectUnwinds → (lists : NameLists) → NamesNeither lists → UnwindsWorked lists
 unfolding action_of address_loaded after around destination arithmetic arrive branch_way calls_into_function code_of decoded decoded_insn entries_of finished added_forms base_forms goes goes_on graph_of group_5 group_7 half has_bad_target has_target_in_site hint_of insn_of_object is_at_end is_dead_end is_entry is_unchecked_owner jump_table least_below loaded look look_form makes_room modrm_at modrm_fits nested never_returns_by opcode_at operands_at operands_by operation operation_by points_of_object pop_operand prefixes_at previous_of program_of push_operand reading rest_at returning_graph returns_at_last rex_at role_of save_of sib_at site_holding sites_of stored subtracted_by subtracted_from table_of_point text_sections_of texts_of map_at opcode_in two_byte_at two_byte_in unchecked_start unsized_of own_hint_of returns_through returning_at insn_by is_linked is_uncovered is_in_named_code flow_faults
-returns c lists names = record {
-  bytes = has_bytes;
-  special = refl;
-  sites = λ k h. absurd (omega (arith, h));
+unwinds law lists names = record {
+  order = order;
   flow = refl;
   ops = refl;
   accepted = accepted lists names;
@@ -45,4 +51,18 @@ returns c lists names = record {
   placed_by = placed lists;
   run = runs lists names;
   walk = walk.goes_on refl refl refl (walk.outside refl);
+  unwinds = law worked lists states bases ranges order refl (accepted lists names) (are_kept lists names) (placed lists) (At after_push) (runs lists names);
 }
+  where
+    order : ObjectIsInOrder worked
+    order = record { object = is_object; bytes = has_bytes; under = lists; special = refl; sites = λ k h. absurd (omega (arith, h)) }
+
+of_built_in : NamesNeither built_in
+unfolding built_in
+of_built_in = record {
+  firm = contains-from_list nat_list_cmp_total kernel_loose (codes "f");
+  returns = contains-from_list nat_list_cmp_total kernel_never_returning (codes "g");
+}
+
+pub returns : goal.returns
+returns c = record { unwinds = unwinds c.object_unwinds.ensures; built_in = of_built_in }
