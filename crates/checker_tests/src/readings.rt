@@ -2,6 +2,7 @@
 
 use elf_objects::{MAX_FILE_BYTES, Object};
 use object_points::{Linked, Map};
+use ot_base::Lists;
 use std::alloc::Global;
 
 /// The object that some bytes are.
@@ -12,10 +13,11 @@ pub fn object_of<'a>(alloc: Global, bytes: &'a [u8]) -> Option<Object<'a>> {
     Object::parse(alloc, bytes).ok()
 }
 
-/// The code of an object.
+/// The code of an object, under the built-in lists of names.
 pub fn code_of<'o, 'a>(alloc: Global, object: &'o Object<'a>) -> Option<Linked<'o, 'a>> {
+    let lists = Lists::built_in(alloc).ok()?;
     if object.bytes().len() as u64 > MAX_FILE_BYTES {
         return None;
     }
-    Linked::link(alloc, Map::Base, object).ok()
+    Linked::link(alloc, Map::Base, object, &lists).ok()
 }

@@ -1,5 +1,5 @@
 -- A hint follows right behind a point that isn't a call, whose edges are all ways on.
-use Rattle.std.proofs.Common.{◌≡◌, ℕ, Bool, true, false, ◌&&◌, ◌||◌, not, List, [], ◌∷◌, refl, sym, ap, ◌∙◌}
+use Rattle.std.proofs.Common.{◌≡◌, ℕ, Bool, true, false, ◌&&◌, ◌||◌, not, Option, List, [], ◌∷◌, refl, sym, ap, ◌∙◌}
 use Rattle.std.specs.Prelude.{Some, filter, slice_get}
 use Rattle.std.specs.List.{list_any, list_all}
 use Rattle.machine_defs.specs.declared.flow.Edge.{Edge}
@@ -8,7 +8,7 @@ use Rattle.machine_defs.specs.declared.flow.EdgeKind.TheVariants.{Next, Taken, F
 use Rattle.machine_defs.specs.declared.flow.Role.{Role}
 use Rattle.machine_defs.specs.declared.flow.Role.TheVariants.{Plain, CallIn, CallEither, CallOut, CallAny, Return, JumpOut, JumpAny, Switch}
 use Rattle.machine_defs.specs.Program.{Program, is_call}
-use Rattle.machine_defs.specs.MayReturn.{target_may_return}
+use Rattle.machine_defs.specs.MayReturn.{code_may_return, is_listed_by, target_may_return}
 use Rattle.machine_defs.specs.Kept.{can_go, edges_of, is_free}
 use Rattle.machine_defs.specs.Ways.{is_fixup, is_before_hint}
 use Rattle.program_model.specs.declared.program.Program.{Program as OwnProgram}
@@ -17,19 +17,38 @@ use Rattle.program_model.specs.Program.{of_point, program_of}
 use Rattle.program_model.specs.Ways.{lead_to_hints}
 use Rattle.program_model.proofs.Points.{of_point_is}
 
-passes : (p : Program) (role : Role) → is_call role ≡ false → target_may_return p role ≡ true
-passes p Plain e = refl
-passes p (CallIn entry) e = absurd (let k : ⊥ = cc in k)
-passes p (CallEither entry sym) e = absurd (let k : ⊥ = cc in k)
-passes p (CallOut sym) e = absurd (let k : ⊥ = cc in k)
-passes p CallAny e = absurd (let k : ⊥ = cc in k)
-passes p Return e = refl
-passes p (JumpOut sym) e = refl
-passes p JumpAny e = refl
-passes p Switch e = refl
+-- what isn't a call isn't listed, and passes
+unlisted : (p : Program) (named : Option ℕ) (role : Role) → is_call role ≡ false → is_listed_by p named role ≡ false
+unlisted p named Plain e = refl
+unlisted p named (CallIn entry) e = absurd (let k : ⊥ = cc in k)
+unlisted p named (CallEither entry sym) e = absurd (let k : ⊥ = cc in k)
+unlisted p named (CallOut sym) e = absurd (let k : ⊥ = cc in k)
+unlisted p named CallAny e = absurd (let k : ⊥ = cc in k)
+unlisted p named Return e = refl
+unlisted p named (JumpOut sym) e = refl
+unlisted p named JumpAny e = refl
+unlisted p named Switch e = refl
+
+returns_anyway : (p : Program) (role : Role) → is_call role ≡ false → code_may_return p role ≡ true
+returns_anyway p Plain e = refl
+returns_anyway p (CallIn entry) e = absurd (let k : ⊥ = cc in k)
+returns_anyway p (CallEither entry sym) e = absurd (let k : ⊥ = cc in k)
+returns_anyway p (CallOut sym) e = absurd (let k : ⊥ = cc in k)
+returns_anyway p CallAny e = absurd (let k : ⊥ = cc in k)
+returns_anyway p Return e = refl
+returns_anyway p (JumpOut sym) e = refl
+returns_anyway p JumpAny e = refl
+returns_anyway p Switch e = refl
+
+both_ways : (marked listed may : Bool) → listed ≡ false → may ≡ true → (not (not marked && listed) && (marked || may)) ≡ true
+both_ways true listed may e f = refl
+both_ways false listed may e f = rw (e, f) refl
+
+passes : (p : Program) (q : ℕ) → is_call (p.role q) ≡ false → target_may_return p q ≡ true
+passes p q e = both_ways (p.marked_call q) (is_listed_by p (p.names q) (p.role q)) (code_may_return p (p.role q)) (unlisted p (p.names q) (p.role q) e) (returns_anyway p (p.role q) e)
 
 goes_by : (p : Program) (q : ℕ) (kind : EdgeKind) → is_call (p.role q) ≡ false → can_go p q kind ≡ true
-goes_by p q Next e = passes p (p.role q) e
+goes_by p q Next e = passes p q e
 goes_by p q Taken e = refl
 goes_by p q Fixup e = refl
 goes_by p q Table e = refl

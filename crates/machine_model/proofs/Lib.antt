@@ -1,6 +1,7 @@
 pub mod Back
 pub mod Before
 pub mod Chosen
+pub mod Ended
 pub mod Frames
 pub mod Hints
 pub mod Lines

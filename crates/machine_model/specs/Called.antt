@@ -1,9 +1,14 @@
 -- What a call makes of a state.
-use Rattle.std.specs.Prelude.{◌≡◌, ℕ, ◌≤◌, ◌^◌, ◌∷◌, Some, None}
+use Rattle.std.specs.Prelude.{◌≡◌, ℕ, ◌≤◌, ◌^◌, ◌∷◌, ◌||◌, ◌&&◌, Bool, Some, None, is_none, is_some}
 use Rattle.state_defs.specs.Address.{down}
 use Rattle.state_defs.specs.Region.{hi_of, WritesWord}
 use Rattle.state_defs.specs.Frame.{Frame, Unsaved}
+use Rattle.machine_defs.specs.Program.{Program}
 use Rattle.machine_defs.specs.Machine.{Standing}
+
+-- whether a call of an entry goes to loose code, or from a function to code of no function
+abbrev pub goes_out : Program → ℕ → ℕ → Bool
+goes_out p q entry = p.loose entry || (is_some (p.owner q) && is_none (p.owner entry))
 
 -- the frame of a call with this return address
 abbrev pub frame_called : Standing → ℕ → Frame

@@ -13,7 +13,7 @@ use Rattle.std.specs.Prelude.{option_map}
 -- the call comes back to this point
 pub record ComesBack (p : Program) (call to : ℕ) : Type 0 where
   pub passed : p.dead_end call ≡ false
-  pub unlisted : is_listed p (p.role call) ≡ false
+  pub unlisted : is_listed p call ≡ false
   pub follows : Contains (p.after call) to
 
 -- the top frame is taken off

@@ -7,3 +7,4 @@ pub mod Left
 pub mod Steps
 pub mod Allowed
 pub mod Promise
+pub mod Ended

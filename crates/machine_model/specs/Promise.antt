@@ -26,8 +26,8 @@ HasSafeSiblings p allowed q = (r : ℕ) → Contains (p.goes q) (edge r Sibling)
 -- a promise is kept where the machine stands, with these homes of its frames
 abbrev pub IsKept : Program → Allowances → List Bool → Standing → Promise → Type 0
 IsKept p allowed homes s FramePointer = CallsWithFrame p (At s)
-IsKept p allowed homes s SafeBranch = is_indirect_branch (p.insn s.point).op ≡ true → allowed.safe_branch s.point ≡ true
-IsKept p allowed homes s SafeReturn = is_return (p.insn s.point).op ≡ true → allowed.safe_branch s.point ≡ true
+IsKept p allowed homes s SafeBranch = is_indirect_branch (p.insn s.point).op ≡ true → allowed.before_user_space s.point ≡ false → allowed.safe_branch s.point ≡ true
+IsKept p allowed homes s SafeReturn = is_return (p.insn s.point).op ≡ true → allowed.before_user_space s.point ≡ false → allowed.safe_branch s.point ≡ true
 IsKept p allowed homes s SafeTarget = s.core.ac ≡ true → HasSafeTarget p allowed (p.role s.point)
 IsKept p allowed homes s SafeTailCall = (r : ℕ) → s.core.ac ≡ true → Contains (p.goes s.point) (edge r Sibling) → is_safe p allowed r ≡ true
 IsKept p allowed homes s StaysOff = (f : Frame) (fs : List Frame) → s.core.shadow ≡ f ∷ fs → top_of homes ≡ true → f.ac ≡ false → s.core.ac ≡ false

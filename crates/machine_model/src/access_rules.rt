@@ -85,13 +85,14 @@ fn broken_by_leaving(point: &ModelPoint, access: bool, home: bool) -> Option<u8>
     }
 }
 
-/// The rule that an instruction breaks which turns user access on or off, or may.
-fn broken_by_turning(op: Op, access: bool, home: bool) -> Option<u8> {
-    match op {
+/// The rule that an instruction breaks which turns user access on or off, or may. Code of no function may turn it off where it
+/// is off, and a popf leaves it off.
+fn broken_by_turning(point: &ModelPoint, access: bool, home: bool) -> Option<u8> {
+    match point.insn.op {
         Op::Stac if access => Some(ACCESS_ON_TWICE),
         Op::Clac if home => Some(SAFE_FUNCTION_ACCESS_OFF),
-        Op::Clac if !access => Some(ACCESS_OFF_TWICE),
-        Op::Popf => Some(POPF_WITH_ACCESS_TRACKED),
+        Op::Clac if !access && point.owner.is_some() => Some(ACCESS_OFF_TWICE),
+        Op::Popf if access => Some(POPF_WITH_ACCESS_TRACKED),
         _ => None,
     }
 }
@@ -115,7 +116,7 @@ fn warnings_at(
     }
     let broken = [
         broken_by_leaving(point, one.access, one.home),
-        broken_by_turning(point.insn.op, one.access, one.home),
+        broken_by_turning(point, one.access, one.home),
     ];
     for rule in broken {
         if let Some(rule) = rule {

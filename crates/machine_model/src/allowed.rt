@@ -10,6 +10,8 @@ use program_model::Program;
 pub struct Allowed<'a> {
     /// The points at which an indirect branch or a return may stay as it is.
     pub safe_branches: &'a [u32],
+    /// The points whose code runs before user space does.
+    pub before_user_space: &'a [u32],
     /// The symbols of functions that may be called with user access on.
     pub safe_names: &'a [u32],
     /// The points in place of which a processor with SMAP has other code.
@@ -44,6 +46,13 @@ impl Allowed<'_> {
         ensures { result ≡ (allowances_of self.now).safe_branch q }
     {
         is_listed(self.safe_branches, q)
+    }
+
+    /// Whether a point's code runs before user space does.
+    pub fn is_before_user_space(&self, q: u32) -> bool
+        ensures { result ≡ (allowances_of self.now).before_user_space q }
+    {
+        is_listed(self.before_user_space, q)
     }
 
     /// Whether a symbol is that of a function that may be called with user access on.

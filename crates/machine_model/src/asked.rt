@@ -41,7 +41,8 @@ fn branch_warnings(
     } else {
         None
     };
-    if let (Some(rule), false) = (broken, allowed.is_safe_branch(q)) {
+    let is_allowed = allowed.is_safe_branch(q) || allowed.is_before_user_space(q);
+    if let (Some(rule), false) = (broken, is_allowed) {
         warnings.push(Warning::bare(p.place(q), rule))?;
     }
     Ok(())

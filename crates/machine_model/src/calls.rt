@@ -1,22 +1,23 @@
 //! Calls.
 
-ghost use Rattle.std.specs.Prelude.{◌≡◌, ◌≤◌, ◌^◌, not, IfOk, IfSome, IsTrue, List, Bool};
+ghost use Rattle.std.specs.Prelude.{◌≡◌, ◌≤◌, ◌^◌, true, IfOk, IfSome, IsTrue, List, Bool};
 ghost use Rattle.state_defs.specs.Region.{hi_of};
 ghost use Rattle.machine_defs.specs.Step.{IsTarget, CallsIn, CallsOut};
-ghost use Rattle.machine_defs.specs.MayReturn.{calls_outside, may_call_out};
+ghost use Rattle.machine_defs.specs.MayReturn.{calls_outside};
+ghost use Rattle.machine_defs.specs.Ways.{comes_back_as_outside, may_call_out};
 ghost use Rattle.program_model.specs.Region.{region_of};
 ghost use Rattle.machine_model.specs.Standing.{standing_of};
 ghost use Rattle.program_model.specs.Program.{program_of};
 ghost use Rattle.program_model.specs.Placement.{bases_of};
 ghost use Rattle.machine_model.specs.Frame.{frame_of};
-ghost use Rattle.machine_model.specs.Called.{frame_called, IsCalled};
+ghost use Rattle.machine_model.specs.Called.{frame_called, goes_out, IsCalled};
 
 use crate::effect::store_ordinarily;
 use crate::frame::Frame;
 use crate::slot::Slot;
 use crate::standing::Standing;
 use machine_defs::Role;
-use program_model::{Program, Store, down, is_listed, return_address};
+use program_model::{Kept, Program, Store, down, is_listed, return_address, target_may_return};
 use std::alloc::{AllocError, Global};
 use table_defs::Range;
 
@@ -92,24 +93,45 @@ fn calls_outside(role: Role) -> bool
     )
 }
 
-/// Whether a call may go to code outside that returns.
-fn may_call_out(p: &Program, role: Role) -> bool
-    ensures { (set : List Bool) → result ≡ may_call_out (program_of p.now set) role }
+/// Whether a call of an entry goes to loose code, or from a function to code of no function.
+fn goes_out(p: &Program, q: u32, entry: u32) -> bool
+    ensures { (set : List Bool) → result ≡ goes_out (program_of p.now set) q entry }
 {
-    calls_outside(role) && !is_listed(p, role)
+    p.is_loose(entry) || p.owner(q).is_some() && p.owner(entry).is_none()
 }
 
-/// It calls code outside, which returns: it keeps rsp, rbp, user access and protected slots.
+/// Whether a call of the program's own code may come back as one of code outside does. The set is of the points from which a
+/// return may come.
+fn comes_back_as_outside(p: &Program, set: &[bool], q: u32, role: Role) -> bool
+    ensures { IsTrue result → comes_back_as_outside (program_of p.now set.now) q role ≡ true }
+{
+    match role {
+        Role::CallIn { entry } => goes_out(p, q, entry) && target_may_return(p, set, q),
+        _ => false,
+    }
+}
+
+/// Whether control may come back behind a call without a return of the program's own: from code outside, or as from there.
+fn may_call_out(p: &Program, set: &[bool], q: u32) -> bool
+    ensures { IsTrue result → may_call_out (program_of p.now set.now) q ≡ true }
+{
+    let role = p.role(q);
+    !is_listed(p, q) && (calls_outside(role) || comes_back_as_outside(p, set, q, role))
+}
+
+/// It calls code outside, or what comes back as that does: it keeps rsp, rbp, user access and protected slots.
 pub fn calls_out(
     alloc: Global,
     p: &Program,
+    kept: &Kept,
     s: Standing,
     to: u32,
     stores: &[Store],
 ) -> Result<Option<Standing>, AllocError>
-    ensures { (set : List Bool) → IfOk result (λ called. IfSome called (λ t. CallsOut (program_of p.now set) (standing_of s) (standing_of t))) }
+    ensures { IfOk result (λ called. IfSome called (λ t. CallsOut (program_of p.now kept.now.may_return.items) (standing_of s) (standing_of t))) }
 {
-    if !may_call_out(p, p.role(s.point)) || p.is_dead_end(s.point) || !p.follows(s.point, to) {
+    let is_out = may_call_out(p, kept.may_return.as_slice(), s.point);
+    if !is_out || p.is_dead_end(s.point) || !p.follows(s.point, to) {
         return Ok(None);
     }
     let Standing {

@@ -49,21 +49,42 @@ pub enum Wreck {
 #[derive(Clone, Copy)]
 pub enum Choice<'a> {
     /// The instruction goes on along this edge.
-    GoesOn { edge: Edge, any: Anything<'a> },
+    GoesOn {
+        edge: Edge,
+        any: Anything<'a>,
+    },
     /// It faults, and goes to the fixup at this point.
-    Faults { to: u32, stores: &'a [Store] },
+    Faults {
+        to: u32,
+        stores: &'a [Store],
+    },
     /// It calls this entry, and control stands at this point there.
-    CallsIn { entry: u32, at: u32 },
-    /// It calls code outside, which returns to this point.
-    CallsOut { to: u32, stores: &'a [Store] },
+    CallsIn {
+        entry: u32,
+        at: u32,
+    },
+    /// It calls code outside, or what comes back as that does, which returns to this point.
+    CallsOut {
+        to: u32,
+        stores: &'a [Store],
+    },
     /// It returns to this point of the caller.
-    Returns { to: u32, stores: &'a [Store] },
+    Returns {
+        to: u32,
+        stores: &'a [Store],
+    },
     /// It jumps to another function, at this point.
-    TailCalls { to: u32 },
+    TailCalls {
+        to: u32,
+    },
     /// Its stack is wrecked.
     Wrecks(Wreck),
-    /// An interrupt comes to this gate.
-    IsInterrupted { gate: u32, words: InterruptWords },
+    /// An interrupt comes to this gate, and control stands at this point there.
+    IsInterrupted {
+        gate: u32,
+        at: u32,
+        words: InterruptWords,
+    },
     /// It returns from an interrupt.
     ReturnsFromInterrupt,
 }

@@ -195,13 +195,13 @@ fn leave(core: Core, any: u64) -> Core
     core
 }
 
-/// The flags are popped, with any access flag.
+/// The flags are popped, with any access flag where user access is on; where it is off it stays off.
 fn pop_flags(core: Core, ac: bool) -> Core
     ensures { Effect Op.Popf (core_of core) (core_of result) }
 {
     let mut core = core;
     core.rsp = up(core.rsp, 8);
-    core.ac = ac;
+    core.ac = core.ac && ac;
     core
 }
 

@@ -5,6 +5,7 @@ ghost use Rattle.state_defs.specs.Region.{hi_of};
 ghost use Rattle.machine_defs.specs.Program.{is_local};
 ghost use Rattle.machine_defs.specs.Step.{GoesOn, Faults, JumpsTo, TailCalls};
 ghost use Rattle.program_model.specs.Region.{region_of};
+ghost use Rattle.machine_model.specs.Ended.{IsEndBehind, IsKeptOf, end_told};
 ghost use Rattle.machine_model.specs.Standing.{standing_of};
 ghost use Rattle.program_model.specs.Program.{program_of};
 
@@ -14,7 +15,8 @@ use crate::effect::{effect, store_ordinarily};
 use crate::leaving::ends_run;
 use crate::standing::Standing;
 use machine_defs::{Edge, EdgeKind, Role};
-use program_model::{Program, Store, is_call};
+use program_model::{Kept, Program, Store, is_call};
+use state_defs::{EndKind, State};
 use std::alloc::{AllocError, Global};
 
 /// Whether an edge of this kind runs the instruction, and stays on the level.
@@ -27,26 +29,52 @@ fn is_local(kind: EdgeKind) -> bool
     }
 }
 
+/// How a state, if one is kept, says that the stack has ended.
+fn end_told(state: Option<State>) -> Option<EndKind>
+    ensures { result ≡ end_told state }
+{
+    match state {
+        Some(State::Ended(kind)) => Some(kind),
+        _ => None,
+    }
+}
+
+/// The end of the stack behind an instruction that goes on to a point: as before it, unless loose code has lost the stack there.
+fn ended_behind(
+    p: &Program,
+    kept: &Kept,
+    from: u32,
+    ended: Option<EndKind>,
+    to: u32,
+) -> Option<EndKind>
+    ensures { IsKeptOf p.now kept.now → IsEndBehind (program_of p.now kept.now.may_return.items) from ended to result }
+{
+    if !p.is_loose(from) {
+        return ended;
+    }
+    match end_told(kept.state(to)) {
+        Some(kind) => Some(kind),
+        None => ended,
+    }
+}
+
 /// An instruction goes on in its function, with its effect. A call doesn't.
 pub fn goes_on(
     alloc: Global,
     p: &Program,
+    kept: &Kept,
     s: Standing,
     edge: Edge,
     any: &Anything<'_>,
 ) -> Result<Option<Standing>, AllocError>
-    ensures { (set : List Bool) → IfOk result (λ gone. IfSome gone (λ t. hi_of (region_of s.core.region) ≤ 2 ^ 64 → GoesOn (program_of p.now set) (standing_of s) (standing_of t))) }
+    ensures { IsKeptOf p.now kept.now → IfOk result (λ gone. IfSome gone (λ t. hi_of (region_of s.core.region) ≤ 2 ^ 64 → GoesOn (program_of p.now kept.now.may_return.items) (standing_of s) (standing_of t))) }
 {
     if is_call(p.role(s.point)) || !is_local(edge.kind) || !p.has_edge(s.point, edge) {
         return Ok(None);
     }
     let op = op_at(p, &s);
-    let Standing {
-        core,
-        ended,
-        mark,
-        ..
-    } = s;
+    let ended = ended_behind(p, kept, s.point, s.ended, edge.to);
+    let Standing { core, mark, .. } = s;
     match effect(alloc, op, core, any)? {
         None => Ok(None),
         Some(core) => Ok(Some(Standing {

@@ -9,10 +9,10 @@ use crate::{Choice, Standing, Start};
 use program_model::Program;
 use std::alloc::{AllocError, Global};
 
-/// Whether a run starts at a hint in code of no function.
+/// Whether a run starts at a point of no function, at whose own place a hint stands.
 fn starts_free(p: &Program, q: u32) -> bool {
     p.point(q)
-        .is_some_and(|point| point.hint.is_some() && point.owner.is_none())
+        .is_some_and(|point| point.has_own_hint && point.owner.is_none())
 }
 
 /// The homes where a run starts: at an entry, with user access as its function expects it, or at a hint in code of no

@@ -19,11 +19,25 @@ use state_defs::{HintState, State};
 use std::alloc::AllocError;
 use table_defs::Range;
 
+/// Whether the hint at a gate counts for each point at which control may stand that comes to it.
+fn counts_for_each(p: &Program, gate: u32) -> bool {
+    (0..p.count()).all(|q| {
+        !p.enters(gate, q)
+            || q == gate
+            || p.point(q)
+                .is_some_and(|other| !other.has_own_hint && other.hint == p.hint(gate))
+    })
+}
+
 /// How many bytes the processor pushes below the five words at a gate: those of an error code, 8, or
-/// none. A gate is a plain point without owner and outside sites, whose hint says so.
+/// none. A gate is a plain point without owner, and in no site past its start, whose hint says so and counts for each of the
+/// site's variants.
 fn gate_bytes(p: &Program, gate: u32) -> Option<u64> {
     let point = p.point(gate)?;
-    if point.variant != 0 || point.owner.is_some() || p.site_at(point.place).is_some() {
+    let is_inside = p
+        .site_at(point.place)
+        .is_some_and(|site| site.start != point.place);
+    if point.variant != 0 || point.owner.is_some() || is_inside || !counts_for_each(p, gate) {
         return None;
     }
     match point.hint {
@@ -80,17 +94,20 @@ fn push_words(core: &mut Core, ra: u64, n: u64, words: &InterruptWords) {
     core.rsp = down(slot, n);
 }
 
-/// An interrupt comes, at any point.
+/// An interrupt comes, at any point, and goes to a gate, where control stands at this point.
 pub fn is_interrupted(
     p: &Program,
     placement: &[Range],
     s: Standing,
-    gate: u32,
+    (gate, at): (u32, u32),
     words: &InterruptWords,
 ) -> Result<Option<Standing>, AllocError> {
     let Some(n) = gate_bytes(p, gate) else {
         return Ok(None);
     };
+    if !p.enters(gate, at) {
+        return Ok(None);
+    }
     let Some(ra) = point_address(p, placement, s.point) else {
         return Ok(None);
     };
@@ -98,7 +115,7 @@ pub fn is_interrupted(
     let frame = interrupt_frame(&s, ra);
     s.core.shadow.insert(0, frame)?;
     push_words(&mut s.core, ra, n, words);
-    s.point = gate;
+    s.point = at;
     s.ended = None;
     s.mark = None;
     Ok(Some(s))

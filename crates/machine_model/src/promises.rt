@@ -106,11 +106,11 @@ fn calls_with_frame(p: &Program, s: &Standing) -> bool
     }
 }
 
-/// Whether an indirect branch or a return, where it is one, is listed.
+/// Whether an indirect branch or a return, where it is one, is listed, or its code runs before user space does.
 fn is_listed_branch(allowed: &Allowed<'_>, q: u32, is_one: bool) -> bool
-    ensures { IsTrue result ↔ (is_one ≡ true → (allowances_of allowed.now).safe_branch q ≡ true) }
+    ensures { IsTrue result ↔ (is_one ≡ true → (allowances_of allowed.now).before_user_space q ≡ false → (allowances_of allowed.now).safe_branch q ≡ true) }
 {
-    !is_one || allowed.is_safe_branch(q)
+    !is_one || allowed.is_before_user_space(q) || allowed.is_safe_branch(q)
 }
 
 /// Whether what is called or jumped to outside the edges is a safe function, or a symbol with a listed name.

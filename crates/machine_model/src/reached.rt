@@ -7,6 +7,7 @@ use crate::allowed::Allowed;
 use machine_defs::{Edge, EdgeKind};
 use operation_defs::Op;
 use program_model::{Program, may_return, target_may_return};
+use state_defs::{HintState, State};
 use std::alloc::{AllocError, Global};
 
 /// A point to which control comes with user access on or off, in a frame whose function expects it on or off.
@@ -43,7 +44,7 @@ fn access_along(kind: EdgeKind, op: Op, access: bool) -> bool
 fn edges_of(alloc: Global, p: &Program, set: &[bool], q: u32) -> Result<Vec<Edge>, AllocError> {
     let mut edges = Vec::new(alloc);
     if let Some(point) = p.point(q) {
-        let comes_back = target_may_return(p, set, point.role);
+        let comes_back = target_may_return(p, set, q);
         for edge in &point.goes {
             if comes_back || edge.kind != EdgeKind::Next {
                 edges.push(*edge)?;
@@ -61,10 +62,21 @@ fn add(reached: &mut Vec<Reached>, allowed: &Allowed<'_>, one: Reached) -> Resul
     Ok(())
 }
 
-/// Whether a hint stands at a point in code of no function.
+/// Whether a hint stands at the own place of a point of no function.
 fn is_free_hint(p: &Program, q: u32) -> bool {
     p.point(q)
-        .is_some_and(|point| point.hint.is_some() && point.owner.is_none())
+        .is_some_and(|point| point.has_own_hint && point.owner.is_none())
+}
+
+/// Whether calls may come to a point of no function: a hint that counts there tells a call frame, or ends the stack.
+fn is_called(p: &Program, q: u32) -> bool {
+    p.point(q).is_some_and(|point| {
+        let is_told = matches!(
+            point.hint,
+            Some(HintState::Set(State::Live { .. } | State::Ended(_)))
+        );
+        is_told && point.owner.is_none()
+    })
 }
 
 /// Where control comes from outside: to the entries, with user access as their function expects it, and to the hints in
@@ -93,6 +105,9 @@ fn first(alloc: Global, p: &Program, allowed: &Allowed<'_>) -> Result<Vec<Reache
         };
         if is_free_hint(p, point) && !reached.contains(&free) {
             reached.push(free)?;
+        }
+        if is_called(p, point) {
+            add(&mut reached, allowed, free)?;
         }
     }
     Ok(reached)

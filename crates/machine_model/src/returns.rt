@@ -105,7 +105,7 @@ fn left_memory(
 fn comes_back(p: &Program, call: u32, to: u32) -> bool
     ensures { (set : List Bool) → IsTrue result → ComesBack (program_of p.now set) call to }
 {
-    !p.is_dead_end(call) && !is_listed(p, p.role(call)) && p.follows(call, to)
+    !p.is_dead_end(call) && !is_listed(p, call) && p.follows(call, to)
 }
 
 /// Whether a return goes back to the caller of a frame: where no run ends, or the caller's stack had ended.

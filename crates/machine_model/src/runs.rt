@@ -5,7 +5,7 @@ use crate::frame::Frame;
 use crate::hint::lands;
 use crate::standing::{Core, Machine, Standing};
 use crate::steps::{interrupt, step};
-use program_model::{ModelPoint, Program, down, is_inside, up};
+use program_model::{Kept, ModelPoint, Program, down, is_inside, up};
 use state_defs::{HintState, State};
 use std::alloc::{AllocError, Global};
 use table_defs::Range;
@@ -48,12 +48,26 @@ fn was_interrupted(placement: &[Range], core: &Core) -> bool {
     outermost(core).is_some_and(|frame| !frame.slot.is_of_call() && !is_inside(placement, frame.ra))
 }
 
-/// Whether a run may start at a point by its hint: a plain point of checked code, not inside a site, but
-/// for its first instruction.
-fn may_start(p: &Program, point: &ModelPoint) -> bool {
-    point.variant == 0
-        && !point.is_unchecked
-        && p.sites.iter().all(|site| !site.contains(point.place) || site.start == point.place)
+/// Whether a run may start at a point by the hint of a plain point: that is of checked code, and in no site past its start;
+/// control that comes there may stand at the point; and the hint counts at that one.
+fn may_start_by(
+    p: &Program,
+    (q, point): (u32, &ModelPoint),
+    plain: u32,
+    hinted: &ModelPoint,
+) -> bool {
+    hinted.variant == 0
+        && !hinted.is_unchecked
+        && p.sites.iter().all(|site| !site.contains(hinted.place) || site.start == hinted.place)
+        && p.enters(plain, q)
+        && point.hint == hinted.hint
+}
+
+/// Whether a run may start at a point by a hint that counts for it.
+fn may_start(p: &Program, q: u32, point: &ModelPoint) -> bool {
+    (0..p.count()).any(|plain| p
+        .point(plain)
+        .is_some_and(|hinted| may_start_by(p, (q, point), plain, hinted)))
 }
 
 /// Whether this kind of start is possible where the machine stands, before the hint there.
@@ -61,7 +75,7 @@ fn is_start(p: &Program, placement: &[Range], start: Start, t: &Standing) -> boo
     let Some(point) = p.point(t.point) else {
         return false;
     };
-    let is_hint_start = may_start(p, point);
+    let is_hint_start = may_start(p, t.point, point);
     match (start, point.hint) {
         (Start::AtEntry { entry }, _) => {
             p.entries.contains(&entry)
@@ -102,10 +116,12 @@ pub fn started(
     Ok(if s.core.is_in_stack() { Some(s) } else { None })
 }
 
-/// The next state of a run; none where the chosen step isn't possible, or rsp leaves the stack.
+/// The next state of a run; none where the chosen step isn't possible, or rsp leaves the stack. Loose code loses the stack as what
+/// a checker keeps of the program tells.
 pub fn next_state(
     alloc: Global,
     p: &Program,
+    kept: &Kept,
     placement: &[Range],
     machine: &Machine,
     choice: &Choice<'_>,
@@ -115,8 +131,10 @@ pub fn next_state(
     };
     let s = s.clone()?;
     let stepped = match choice {
-        Choice::IsInterrupted { gate, words } => interrupt(alloc, p, placement, s, *gate, words)?,
-        _ => step(alloc, p, placement, s, choice)?,
+        Choice::IsInterrupted { gate, at, words } => {
+            interrupt(alloc, p, placement, s, (*gate, *at), words)?
+        }
+        _ => step(alloc, p, kept, placement, s, choice)?,
     };
     match stepped {
         Some(Machine::At(t)) if !t.core.is_in_stack() => Ok(None),
@@ -128,6 +146,7 @@ pub fn next_state(
 fn push_next(
     alloc: Global,
     p: &Program,
+    kept: &Kept,
     placement: &[Range],
     states: &mut Vec<Machine>,
     choice: &Choice<'_>,
@@ -135,7 +154,7 @@ fn push_next(
     let Some(machine) = states.last() else {
         return Ok(false);
     };
-    let Some(next) = next_state(alloc, p, placement, machine, choice)? else {
+    let Some(next) = next_state(alloc, p, kept, placement, machine, choice)? else {
         return Ok(false);
     };
     states.push(next)?;
@@ -151,12 +170,13 @@ pub fn run(
     t: Standing,
     choices: &[Choice<'_>],
 ) -> Result<Vec<Machine>, AllocError> {
+    let kept = Kept::of(alloc, p)?;
     let mut states = Vec::new(alloc);
     if let Some(s) = started(alloc, p, placement, start, t)? {
         states.push(Machine::At(s))?;
     }
     for choice in choices {
-        if !push_next(alloc, p, placement, &mut states, choice)? {
+        if !push_next(alloc, p, &kept, placement, &mut states, choice)? {
             break;
         }
     }

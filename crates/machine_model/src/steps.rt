@@ -5,6 +5,7 @@ ghost use Rattle.state_defs.specs.Region.{hi_of};
 ghost use Rattle.machine_defs.specs.Machine.{At};
 ghost use Rattle.machine_defs.specs.Step.{Step};
 ghost use Rattle.program_model.specs.Region.{region_of};
+ghost use Rattle.machine_model.specs.Ended.{IsKeptOf};
 ghost use Rattle.machine_model.specs.Standing.{standing_of, machine_of};
 ghost use Rattle.machine_model.specs.Steps.{LeadsTo, LandsAs};
 ghost use Rattle.program_model.specs.Program.{program_of};
@@ -18,7 +19,7 @@ use crate::interrupts::{is_interrupted, returns_from_interrupt};
 use crate::returns::returns;
 use crate::standing::{Machine, Standing};
 use crate::wrecks::may_wreck;
-use program_model::Program;
+use program_model::{Kept, Program};
 use std::alloc::{AllocError, Global};
 use table_defs::Range;
 
@@ -26,17 +27,18 @@ use table_defs::Range;
 fn moved(
     alloc: Global,
     p: &Program,
+    kept: &Kept,
     placement: &[Range],
     s: Standing,
     choice: &Choice<'_>,
 ) -> Result<Option<Standing>, AllocError>
-    ensures { (set : List Bool) → IfOk result (λ moved. IfSome moved (λ t. hi_of (region_of s.core.region) ≤ 2 ^ 64 → LeadsTo (program_of p.now set) (bases_of placement.now) (standing_of s) (standing_of t))) }
+    ensures { IsKeptOf p.now kept.now → IfOk result (λ moved. IfSome moved (λ t. hi_of (region_of s.core.region) ≤ 2 ^ 64 → LeadsTo (program_of p.now kept.now.may_return.items) (bases_of placement.now) (standing_of s) (standing_of t))) }
 {
     match choice {
-        Choice::GoesOn { edge, any } => goes_on(alloc, p, s, *edge, any),
+        Choice::GoesOn { edge, any } => goes_on(alloc, p, kept, s, *edge, any),
         Choice::Faults { to, stores } => faults(alloc, p, s, *to, stores),
         Choice::CallsIn { entry, at } => calls_in(p, placement, s, *entry, *at),
-        Choice::CallsOut { to, stores } => calls_out(alloc, p, s, *to, stores),
+        Choice::CallsOut { to, stores } => calls_out(alloc, p, kept, s, *to, stores),
         Choice::Returns { to, stores } => returns(alloc, p, s, *to, stores),
         Choice::TailCalls { to } => Ok(tail_calls(p, s, *to)),
         _ => Ok(None),
@@ -54,15 +56,16 @@ fn landed(alloc: Global, p: &Program, t: Standing) -> Result<Option<Machine>, Al
 }
 
 /// The step that was chosen, but for an interrupt; none where it isn't possible. After a return from an
-/// interrupt no hint is looked at.
+/// interrupt no hint is looked at. Loose code loses the stack as what a checker keeps tells.
 pub fn step(
     alloc: Global,
     p: &Program,
+    kept: &Kept,
     placement: &[Range],
     s: Standing,
     choice: &Choice<'_>,
 ) -> Result<Option<Machine>, AllocError>
-    ensures { (set : List Bool) → IfOk result (λ stepped. IfSome stepped (λ m. hi_of (region_of s.core.region) ≤ 2 ^ 64 → Step (program_of p.now set) (bases_of placement.now) (At (standing_of s)) (machine_of m))) }
+    ensures { IsKeptOf p.now kept.now → IfOk result (λ stepped. IfSome stepped (λ m. hi_of (region_of s.core.region) ≤ 2 ^ 64 → Step (program_of p.now kept.now.may_return.items) (bases_of placement.now) (At (standing_of s)) (machine_of m))) }
 {
     match choice {
         Choice::Wrecks(wreck) => {
@@ -76,23 +79,23 @@ pub fn step(
             None => Ok(None),
             Some(t) => Ok(Some(Machine::At(t))),
         },
-        _ => match moved(alloc, p, placement, s, choice)? {
+        _ => match moved(alloc, p, kept, placement, s, choice)? {
             None => Ok(None),
             Some(t) => landed(alloc, p, t),
         },
     }
 }
 
-/// An interrupt comes to a gate, whose hint does its work.
+/// An interrupt comes to a gate, and control stands at this point there, whose hint does its work.
 pub fn interrupt(
     alloc: Global,
     p: &Program,
     placement: &[Range],
     s: Standing,
-    gate: u32,
+    (gate, at): (u32, u32),
     words: &InterruptWords,
 ) -> Result<Option<Machine>, AllocError> {
-    match is_interrupted(p, placement, s, gate, words)? {
+    match is_interrupted(p, placement, s, (gate, at), words)? {
         None => Ok(None),
         Some(t) => landed(alloc, p, t),
     }

@@ -75,6 +75,8 @@ pub const NO_OPTIONS: Options = Options {
     rethunk: false,
     uaccess: false,
     unreachable: false,
+    link: false,
+    module: false,
 };
 
 /// How the machine goes on from a point to a point.
@@ -88,6 +90,9 @@ pub enum How {
     WritesBp(u64),
     /// With this written to rsp, and where rbp is written too, the caller's.
     WritesSp(u64),
+    /// With this written to rsp, by loose code that loses the stack so: there are no frames behind it, and walks end at an
+    /// undefined row.
+    Loses(u64),
     /// By a branch.
     Taken,
     /// By a jump table.
@@ -96,7 +101,7 @@ pub enum How {
     Faults(&'static [Store]),
     /// By a call of the entry there.
     Calls,
-    /// By a call of code outside, which returns and stores these bytes.
+    /// By a call of code outside, or of what comes back as that does, which returns and stores these bytes.
     CallsOut(&'static [Store]),
     /// By a return, before which code outside stores these bytes.
     Returns(&'static [Store]),
@@ -104,6 +109,8 @@ pub enum How {
     TailCalls,
     /// An interrupt comes to the gate there.
     IsInterrupted,
+    /// An interrupt comes to this gate, and control stands there.
+    ComesTo(u32),
     /// It returns from an interrupt.
     Irets,
     /// Its stack is wrecked.

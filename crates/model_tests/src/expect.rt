@@ -8,10 +8,10 @@ use machine_model::{
     Anything, Choice, Core, InterruptWords, Machine, Standing, next_state, started,
 };
 use ot_base::{Options, Place, PlacedRow, Warning};
-use program_model::{Program, Region, kept_states, rows, walk, warnings};
+use program_model::{Kept, Program, Region, rows, walk, warnings};
 use stack_examples::builder::program;
 use stack_examples::lines::Table;
-use state_defs::{EndKind, State};
+use state_defs::EndKind;
 use std::alloc::{AllocError, Global};
 use std::process::Abort;
 use table_defs::{Frame as WalkedFrame, Range, Regs, Stop};
@@ -37,13 +37,35 @@ fn goes(to: u32, kind: EdgeKind, any: Anything<'static>) -> Choice<'static> {
     }
 }
 
+/// An interrupt at a gate, where control stands at this point.
+fn interrupted(gate: u32, at: u32) -> Choice<'static> {
+    Choice::IsInterrupted {
+        gate,
+        at,
+        words: InterruptWords {
+            cs: 0x10,
+            flags: 0x246,
+            ss: 0x18,
+            error: 0xE,
+        },
+    }
+}
+
 impl How {
+    /// Where the stack ends behind a step, of one that ended so before it.
+    fn stop(self, before: Stop) -> Stop {
+        match self {
+            How::Loses(_) => Stop::Undefined,
+            _ => before,
+        }
+    }
+
     fn choice(self, to: u32) -> Choice<'static> {
         match self {
             How::Next => goes(to, EdgeKind::Next, ANYTHING),
             How::Stores(stores) => goes(to, EdgeKind::Next, Anything { stores, ..ANYTHING }),
             How::WritesBp(rbp) => goes(to, EdgeKind::Next, Anything { rbp, ..ANYTHING }),
-            How::WritesSp(rsp) => {
+            How::WritesSp(rsp) | How::Loses(rsp) => {
                 let any = Anything {
                     rsp,
                     rbp: RBP,
@@ -58,15 +80,8 @@ impl How {
             How::CallsOut(stores) => Choice::CallsOut { to, stores },
             How::Returns(stores) => Choice::Returns { to, stores },
             How::TailCalls => Choice::TailCalls { to },
-            How::IsInterrupted => Choice::IsInterrupted {
-                gate: to,
-                words: InterruptWords {
-                    cs: 0x10,
-                    flags: 0x246,
-                    ss: 0x18,
-                    error: 0xE,
-                },
-            },
+            How::IsInterrupted => interrupted(to, to),
+            How::ComesTo(gate) => interrupted(gate, to),
             How::Irets => Choice::ReturnsFromInterrupt,
             How::Wrecks(wreck) => Choice::Wrecks(wreck),
         }
@@ -77,7 +92,7 @@ impl How {
 #[derive(Drop)]
 struct Example {
     program: Program,
-    states: Vec<Option<State>>,
+    kept: Kept,
     rows: Vec<PlacedRow>,
     placement: [Range; 1],
 }
@@ -89,11 +104,11 @@ fn checked(alloc: Global, program: Program) -> Result<Example, AllocError> {
         base: BASE,
         size,
     }];
-    let states = kept_states(alloc, &program)?;
+    let kept = Kept::of(alloc, &program)?;
     let rows = rows(alloc, &program)?;
     Ok(Example {
         program,
-        states,
+        kept,
         rows,
         placement,
     })
@@ -142,10 +157,6 @@ fn frames_of(alloc: Global, s: &Standing) -> Result<(Vec<WalkedFrame>, Stop), Al
 }
 
 impl Example {
-    fn state(&self, q: u32) -> Option<State> {
-        *self.states.get(q as usize)?
-    }
-
     fn start(&self, alloc: Global, from: &From) -> Result<Option<Machine>, AllocError> {
         let t = standing(alloc, from)?;
         let s = started(alloc, &self.program, &self.placement, from.start, t)?;
@@ -160,7 +171,14 @@ impl Example {
         to: u32,
     ) -> Result<Option<Machine>, AllocError> {
         let choice = how.choice(to);
-        next_state(alloc, &self.program, &self.placement, machine, &choice)
+        next_state(
+            alloc,
+            &self.program,
+            &self.kept,
+            &self.placement,
+            machine,
+            &choice,
+        )
     }
 
     /// What the walk from a standing gives.
@@ -181,7 +199,7 @@ impl Example {
         let Machine::At(s) = machine else {
             return Ok(Some(Wrong::Wrecked));
         };
-        if self.state(s.point).is_none() {
+        if self.kept.state(s.point).is_none() {
             return Ok(Some(Wrong::NotKept(s.point)));
         }
         let (frames, stop) = frames_of(alloc, s)?;
@@ -235,8 +253,10 @@ impl Example {
         )? {
             return Some(false);
         }
+        let mut stop = stop;
         for (how, to, rsp, frames) in run.steps {
             machine = self.step(alloc, &machine, *how, *to).ok()??;
+            stop = how.stop(stop);
             if !self.is_at(alloc, &machine, (*to, *rsp), (frames, stop))? {
                 return Some(false);
             }
@@ -323,7 +343,7 @@ fn is_accepted(alloc: Global, case: &Accepted) -> Option<bool> {
     let example = example_of(alloc, &case.table)?;
     Some(
         example.is_warned(alloc, &NO_OPTIONS, &[])?
-            && example.states.as_slice() == case.states
+            && example.kept.states.as_slice() == case.states
             && example.runs_all(alloc, case.runs)?,
     )
 }

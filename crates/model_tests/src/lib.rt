@@ -18,11 +18,17 @@ mod functions;
 #[cfg(test)]
 mod further_calls;
 #[cfg(test)]
+mod hinted_sites;
+#[cfg(test)]
 mod hints;
 #[cfg(test)]
 mod interrupts;
 #[cfg(test)]
+mod joined;
+#[cfg(test)]
 mod leaving;
+#[cfg(test)]
+mod loose;
 #[cfg(test)]
 mod moves;
 #[cfg(test)]

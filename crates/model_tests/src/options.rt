@@ -3,18 +3,31 @@
 
 use crate::case::{Broken, End};
 use crate::expect::expect_broken;
-use machine_defs::Role;
+use machine_defs::{EdgeKind, Role};
 use operation_defs::Op;
 use ot_base::{Options, rules};
 use stack_examples::lines::{Table, With};
 
 /// Unreachable instructions are asked for, frame pointers, or both.
-const UNREACHABLE: Options = Options {
+pub const UNREACHABLE: Options = Options {
     fp: false,
     retpoline: false,
     rethunk: false,
     uaccess: false,
     unreachable: true,
+    link: false,
+    module: false,
+};
+
+/// Besides the first, the object is linked.
+const LINKED: Options = Options {
+    fp: false,
+    retpoline: false,
+    rethunk: false,
+    uaccess: false,
+    unreachable: true,
+    link: true,
+    module: false,
 };
 
 const FP: Options = Options {
@@ -23,6 +36,8 @@ const FP: Options = Options {
     rethunk: false,
     uaccess: false,
     unreachable: false,
+    link: false,
+    module: false,
 };
 
 const BOTH: Options = Options {
@@ -31,6 +46,8 @@ const BOTH: Options = Options {
     rethunk: false,
     uaccess: false,
     unreachable: true,
+    link: false,
+    module: false,
 };
 
 const UNREACHED_TABLE: Table = Table {
@@ -134,6 +151,75 @@ const WITHOUT_FRAME_UNASKED: Broken = Broken {
     run: End::IsNotRun,
 };
 
+/// C3 53 5B C3 C3: between two functions stands code that no symbol covers.
+const HOLE_TABLE: Table = Table {
+    rows: &[
+        (0, 1, Op::Ret, &[]),
+        (1, 1, Op::Push, &[With::OfNone, With::Uncovered]),
+        (2, 1, Op::Pop, &[With::OfNone, With::Uncovered]),
+        (3, 1, Op::Ret, &[With::OfNone, With::Uncovered]),
+        (4, 1, Op::Ret, &[With::Of(1)]),
+    ],
+    entries: &[0, 4],
+    sites: &[],
+};
+
+const HOLE: Broken = Broken {
+    name: "code that no symbol covers",
+    table: HOLE_TABLE,
+    options: UNREACHABLE,
+    warnings: &[(1, rules::UNREACHABLE_INSTRUCTION, 0, 0)],
+    run: End::IsNotRun,
+};
+
+const LINKED_HOLE: Broken = Broken {
+    name: "a hole of an object that is linked",
+    table: HOLE_TABLE,
+    options: LINKED,
+    warnings: &[],
+    run: End::IsNotRun,
+};
+
+/// C3 EB 00 53 5B C3: such code jumps to a part of a function.
+const PART_TABLE: Table = Table {
+    rows: &[
+        (0, 1, Op::Ret, &[]),
+        (
+            1,
+            2,
+            Op::Jmp {
+                rel: 0,
+                wide: false,
+            },
+            &[With::OfNone, With::Uncovered, With::To(3, EdgeKind::Taken)],
+        ),
+        (3, 1, Op::Push, &[With::OfPart(9)]),
+        (4, 1, Op::Pop, &[With::OfPart(9)]),
+        (5, 1, Op::Ret, &[With::OfPart(9)]),
+    ],
+    entries: &[0],
+    sites: &[],
+};
+
+const PART: Broken = Broken {
+    name: "a part of a function to which code jumps that no symbol covers",
+    table: PART_TABLE,
+    options: UNREACHABLE,
+    warnings: &[
+        (1, rules::UNREACHABLE_INSTRUCTION, 0, 0),
+        (3, rules::UNREACHABLE_INSTRUCTION, 0, 0),
+    ],
+    run: End::IsNotRun,
+};
+
+const PART_OF_HOLE: Broken = Broken {
+    name: "a part of a function to which a hole jumps",
+    table: PART_TABLE,
+    options: LINKED,
+    warnings: &[],
+    run: End::IsNotRun,
+};
+
 #[test]
 fn programs_break_their_rules(rt: HostRuntime) {
     expect_broken(&rt, rt.alloc(), &UNREACHED);
@@ -142,4 +228,8 @@ fn programs_break_their_rules(rt: HostRuntime) {
     expect_broken(&rt, rt.alloc(), &UNREACHED_UNASKED);
     expect_broken(&rt, rt.alloc(), &WITHOUT_FRAME);
     expect_broken(&rt, rt.alloc(), &WITHOUT_FRAME_UNASKED);
+    expect_broken(&rt, rt.alloc(), &HOLE);
+    expect_broken(&rt, rt.alloc(), &LINKED_HOLE);
+    expect_broken(&rt, rt.alloc(), &PART);
+    expect_broken(&rt, rt.alloc(), &PART_OF_HOLE);
 }

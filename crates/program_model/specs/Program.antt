@@ -56,11 +56,16 @@ program_of p may_return = record {
   owner = λ q. of_point p None (λ x. x.owner) q;
   unchecked = λ q. of_point p false (λ x. x.is_unchecked) q;
   in_patches = λ q. of_point p false (λ x. x.is_in_patches) q;
+  loose = λ q. of_point p false (λ x. x.is_loose) q;
+  uncovered = λ q. of_point p false (λ x. x.is_uncovered) q;
   previous = λ q. of_point p None (λ x. x.previous) q;
   hint = λ q. of_point p None (λ x. x.hint) q;
+  own_hint = λ q. of_point p false (λ x. x.has_own_hint) q;
   save_of = λ q. of_point p None (λ x. x.save_of) q;
   goes = λ q. of_point p [] (λ x. x.goes.items) q;
   role = λ q. of_point p Plain (λ x. x.role) q;
+  names = λ q. of_point p None (λ x. x.names) q;
+  marked_call = λ q. of_point p false (λ x. x.is_marked_call) q;
   dead_end = λ q. of_point p false (λ x. x.is_dead_end) q;
   marks = λ q. of_point p no_marks (λ x. x.marks) q;
   after = λ q. of_point p [] (λ x. x.after.items) q;
@@ -72,6 +77,7 @@ program_of p may_return = record {
   sites = map site_of p.sites.items;
   texts = map text_of p.texts.items;
   unsized = p.without_size.items;
+  linked = p.is_linked;
 }
 
 -- control that comes to some entry may stand at the point

@@ -1,9 +1,13 @@
+ghost use Rattle.std.specs.Prelude.{◌≡◌};
+ghost use Rattle.state_defs.specs.Move.{move};
+ghost use Rattle.machine_defs.specs.Kept.{loosened, loses_stack};
+
 use crate::returning::{may_return, target_may_return};
 use crate::{ModelPoint, Program};
 use machine_defs::{Edge, EdgeKind};
-use operation_defs::Op;
+use ot_base::rules::{BP_NOT_SAVED, SAVED_SLOT_DROPPED, STACK_POINTER_LOST, UNSUPPORTED_SP_WRITE};
 use stack_state::{initial, step};
-use state_defs::{HintState, State};
+use state_defs::{EndKind, HintState, State};
 use std::alloc::{AllocError, Global};
 
 /// The state that is kept at each point, by its number, where one is.
@@ -21,11 +25,32 @@ pub struct Kept {
     pub states: Vec<Option<State>>,
 }
 
+/// The state after the instruction of a point, or the rule that refuses it. Where loose code loses rsp or rbp nothing is known of
+/// the stack.
+pub fn moved_at(point: &ModelPoint, state: State) -> Result<State, u8>
+    ensures { result ≡ loosened point.now.is_loose (move state point.now.insn.op) }
+{
+    match step(state, point.insn.op) {
+        Err(rule) if point.is_loose && loses_stack(rule) => Ok(State::Ended(EndKind::Undefined)),
+        after => after,
+    }
+}
+
+/// Whether a rule says that rsp or rbp is lost.
+fn loses_stack(rule: u8) -> bool
+    ensures { result ≡ loses_stack rule }
+{
+    rule == UNSUPPORTED_SP_WRITE
+        || rule == BP_NOT_SAVED
+        || rule == STACK_POINTER_LOST
+        || rule == SAVED_SLOT_DROPPED
+}
+
 /// What a state is brought along an edge as: to a fixup the state before the instruction, else the one
 /// after it; to another function none.
-fn brought_along(state: State, op: Op, kind: EdgeKind) -> Option<State> {
+fn brought_along(point: &ModelPoint, state: State, kind: EdgeKind) -> Option<State> {
     match kind {
-        EdgeKind::Next | EdgeKind::Taken | EdgeKind::Table => step(state, op).ok(),
+        EdgeKind::Next | EdgeKind::Taken | EdgeKind::Table => moved_at(point, state).ok(),
         EdgeKind::Fixup => Some(state),
         EdgeKind::Sibling => None,
     }
@@ -44,6 +69,8 @@ fn first_state(p: &Program, q: u32, point: &ModelPoint) -> Option<State> {
 }
 
 impl Kept {
+    ghost use Rattle.std.specs.Prelude.{◌≡◌, None, slice_index_or};
+
     /// Level 0.
     fn first(alloc: Global, p: &Program) -> Result<Kept, AllocError> {
         let mut states = Vec::new(alloc);
@@ -70,19 +97,22 @@ impl Kept {
     }
 
     /// The state of a point, where it is kept.
-    pub fn state(&self, q: u32) -> Option<State> {
-        *self.states.get(q as usize)?
+    pub fn state(&self, q: u32) -> Option<State>
+        ensures { result ≡ slice_index_or self.now.states.items q None }
+    {
+        match self.states.get(q as usize) {
+            Some(state) => *state,
+            None => None,
+        }
     }
 
     /// The edges of a point, without the Next of a call that can't come back.
-    pub fn edges_of(
-        &self,
-        alloc: Global,
-        p: &Program,
-        point: &ModelPoint,
-    ) -> Result<Vec<Edge>, AllocError> {
-        let comes_back = target_may_return(p, self.may_return.as_slice(), point.role);
+    pub fn edges_of(&self, alloc: Global, p: &Program, q: u32) -> Result<Vec<Edge>, AllocError> {
+        let comes_back = target_may_return(p, self.may_return.as_slice(), q);
         let mut edges = Vec::new(alloc);
+        let Some(point) = p.point(q) else {
+            return Ok(edges);
+        };
         for edge in &point.goes {
             if comes_back || edge.kind != EdgeKind::Next {
                 edges.push(*edge)?;
@@ -96,14 +126,14 @@ impl Kept {
         &self,
         alloc: Global,
         p: &Program,
-        point: &ModelPoint,
+        (from, point): (u32, &ModelPoint),
         state: State,
         q: u32,
     ) -> Result<Vec<State>, AllocError> {
         let mut states = Vec::new(alloc);
-        for edge in &self.edges_of(alloc, p, point)? {
+        for edge in &self.edges_of(alloc, p, from)? {
             if edge.to == q {
-                if let Some(brought) = brought_along(state, point.insn.op, edge.kind) {
+                if let Some(brought) = brought_along(point, state, edge.kind) {
                     states.push(brought)?;
                 }
             }
@@ -121,7 +151,7 @@ impl Kept {
         let mut least: Option<State> = None;
         for from in 0..p.count() {
             if let (Some(point), Some(state)) = (p.point(from), self.state(from)) {
-                for brought in &self.brought_by(alloc, p, point, state, q)? {
+                for brought in &self.brought_by(alloc, p, (from, point), state, q)? {
                     least = Some(least.map_or(*brought, |best| best.min(*brought)));
                 }
             }

@@ -22,7 +22,7 @@ mod walks;
 mod ways;
 
 pub use address::{down, shifted, shifted_back, up};
-pub use kept::kept_states;
+pub use kept::{Kept, kept_states};
 pub use placement::{address_of, is_inside, point_address, return_address};
 pub use program::{ModelPoint, ModelSite, Program, TextSection};
 pub use region::{Region, Store};

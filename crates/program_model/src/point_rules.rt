@@ -1,6 +1,6 @@
 //! The rules of stack validation that speak of one kept point and where it goes.
 
-use crate::kept::Kept;
+use crate::kept::{Kept, moved_at};
 use crate::state_row::StateRow;
 use crate::state_rules::{iret_rule, return_rule, sibling_rule, switch_rule};
 use crate::ways::{is_free, lead_to_hints, may_leave};
@@ -8,7 +8,6 @@ use crate::{ModelPoint, Program};
 use machine_defs::{Edge, EdgeKind, Role};
 use operation_defs::Op;
 use ot_base::{Place, Warning, rules};
-use stack_state::step;
 use state_defs::{Depth, HintState, State};
 use std::alloc::{AllocError, Global};
 
@@ -79,7 +78,7 @@ fn warnings_along(
     alloc: Global,
     p: &Program,
     kept: &Kept,
-    point: &ModelPoint,
+    (q, point): (u32, &ModelPoint),
     state: State,
     edge: Edge,
 ) -> Result<(), AllocError> {
@@ -91,7 +90,7 @@ fn warnings_along(
     }
     if let Some(there) = kept.state(edge.to) {
         if is_free(target.hint) {
-            let states = kept.brought_by(alloc, p, point, state, edge.to)?;
+            let states = kept.brought_by(alloc, p, (q, point), state, edge.to)?;
             mismatch_warnings(warnings, target.place, there, states.as_slice())?;
         }
     } else if target.hint == Some(HintState::Restore) {
@@ -106,11 +105,11 @@ fn edge_warnings(
     alloc: Global,
     p: &Program,
     kept: &Kept,
-    point: &ModelPoint,
+    (q, point): (u32, &ModelPoint),
     state: State,
 ) -> Result<(), AllocError> {
-    for edge in &kept.edges_of(alloc, p, point)? {
-        warnings_along(warnings, alloc, p, kept, point, state, *edge)?;
+    for edge in &kept.edges_of(alloc, p, q)? {
+        warnings_along(warnings, alloc, p, kept, (q, point), state, *edge)?;
     }
     Ok(())
 }
@@ -152,12 +151,12 @@ fn leaves_by_jump(
     alloc: Global,
     p: &Program,
     kept: &Kept,
-    point: &ModelPoint,
+    (q, point): (u32, &ModelPoint),
 ) -> Result<bool, AllocError> {
     Ok(match point.role {
         Role::JumpOut { .. } | Role::JumpAny => true,
         _ => kept
-            .edges_of(alloc, p, point)?
+            .edges_of(alloc, p, q)?
             .iter()
             .any(|edge| edge.kind == EdgeKind::Sibling),
     })
@@ -169,26 +168,27 @@ fn sibling_warnings(
     alloc: Global,
     p: &Program,
     kept: &Kept,
-    point: &ModelPoint,
+    (q, point): (u32, &ModelPoint),
     state: State,
     may_leave: bool,
 ) -> Result<(), AllocError> {
     let broken = broken_rule(sibling_rule(state), may_leave);
-    if let (true, Some(rule)) = (leaves_by_jump(alloc, p, kept, point)?, broken) {
+    if let (true, Some(rule)) = (leaves_by_jump(alloc, p, kept, (q, point))?, broken) {
         warnings.push(leaving_warning(point.place, rule, state))?;
     }
     Ok(())
 }
 
 /// The warnings of an operation in its state: 7 to 11, where it is refused or an offset doesn't fit, and
-/// 15, where it leaves the code and isn't allowed to. rsp may be written in any way right before a hint.
+/// 15, where it leaves the code and isn't allowed to. rsp may be written in any way right before a hint, and loose code may lose
+/// rsp and rbp.
 fn operation_warnings(
     warnings: &mut Vec<Warning>,
     point: &ModelPoint,
     state: State,
     is_before_hint: bool,
 ) -> Result<(), AllocError> {
-    if let Err(rule) = step(state, point.insn.op) {
+    if let Err(rule) = moved_at(point, state) {
         if rule != rules::UNSUPPORTED_SP_WRITE || !is_before_hint {
             warnings.push(Warning::bare(point.place, rule))?;
         }
@@ -218,11 +218,11 @@ pub fn point_warnings(
     state: State,
 ) -> Result<(), AllocError> {
     let may_leave = may_leave(p, q);
-    let edges = kept.edges_of(alloc, p, point)?;
+    let edges = kept.edges_of(alloc, p, q)?;
     let is_before_hint = lead_to_hints(p, edges.as_slice());
     mark_warnings(warnings, point, state)?;
-    edge_warnings(warnings, alloc, p, kept, point, state)?;
+    edge_warnings(warnings, alloc, p, kept, (q, point), state)?;
     return_warnings(warnings, point, state, may_leave)?;
-    sibling_warnings(warnings, alloc, p, kept, point, state, may_leave)?;
+    sibling_warnings(warnings, alloc, p, kept, (q, point), state, may_leave)?;
     operation_warnings(warnings, point, state, is_before_hint)
 }

@@ -51,16 +51,26 @@ pub struct ModelPoint {
     pub is_unchecked: bool,
     /// Whether control comes to its section by patching alone.
     pub is_in_patches: bool,
+    /// Whether it runs in loose code.
+    pub is_loose: bool,
+    /// Whether it stands in code that no symbol covers, behind one.
+    pub is_uncovered: bool,
     /// The plain point right before a plain point, in its section.
     pub previous: Option<u32>,
-    /// The unwind hint at its place.
+    /// The unwind hint that counts for it.
     pub hint: Option<HintState>,
+    /// Whether a hint stands at its own place.
+    pub has_own_hint: bool,
     /// The SAVE point that a RESTORE means.
     pub save_of: Option<u32>,
     /// Where control goes from it.
     pub goes: Vec<Edge>,
     /// What it is to its function.
     pub role: Role,
+    /// The symbol by which it names its target.
+    pub names: Option<u32>,
+    /// Whether it is a call behind which control comes back, whatever it calls.
+    pub is_marked_call: bool,
     /// Whether execution never passes it.
     pub is_dead_end: bool,
     /// What is wrong with where it goes.
@@ -110,6 +120,8 @@ pub struct Program {
     pub texts: Vec<TextSection>,
     /// The places of functions without a size.
     pub without_size: Vec<Place>,
+    /// Whether the object is joined from several.
+    pub is_linked: bool,
 }
 
 impl Program {
@@ -217,6 +229,36 @@ impl Program {
         match self.point(q) {
             Some(point) => point.role,
             None => Role::Plain,
+        }
+    }
+
+    /// Whether a point runs in loose code.
+    pub fn is_loose(&self, q: u32) -> bool
+        ensures { result ≡ of_point self.now false (λ x. x.is_loose) q }
+    {
+        match self.point(q) {
+            Some(point) => point.is_loose,
+            None => false,
+        }
+    }
+
+    /// The symbol by which a point names its target.
+    pub fn names(&self, q: u32) -> Option<u32>
+        ensures { result ≡ of_point self.now None (λ x. x.names) q }
+    {
+        match self.point(q) {
+            Some(point) => point.names,
+            None => None,
+        }
+    }
+
+    /// Whether a point is a call behind which control comes back, whatever it calls.
+    pub fn is_marked_call(&self, q: u32) -> bool
+        ensures { result ≡ of_point self.now false (λ x. x.is_marked_call) q }
+    {
+        match self.point(q) {
+            Some(point) => point.is_marked_call,
+            None => false,
         }
     }
 

@@ -1,11 +1,11 @@
 //! How ways lead on from a point: whether it may leave whatever its stack is, and whether a hint follows right behind it.
 
-ghost use Rattle.std.specs.Prelude.{◌≡◌, not, List, Bool};
+ghost use Rattle.std.specs.Prelude.{◌≡◌, ◌||◌, not, List, Bool};
 ghost use Rattle.std.specs.List.{list_any, list_all};
 ghost use Rattle.machine_defs.specs.Kept.{is_free};
-ghost use Rattle.machine_defs.specs.Ways.{drops_bytes, is_fixup, is_sibling, leads_out, may_leave};
+ghost use Rattle.machine_defs.specs.Ways.{drops_bytes, is_fixup, is_next, is_sibling, leads_out, may_leave};
 ghost use Rattle.program_model.specs.Program.{program_of};
-ghost use Rattle.program_model.specs.Ways.{leaves, leads_to_hint, lead_to_hints};
+ghost use Rattle.program_model.specs.Ways.{is_joined, leads_outside, leaves, leads_to_hint, lead_to_hints};
 
 use crate::{ModelPoint, Program};
 use machine_defs::{Edge, EdgeKind, Role};
@@ -35,15 +35,35 @@ fn has_sibling(edges: &[Edge]) -> bool
         .any(|edge| matches!(edge.kind, EdgeKind::Sibling))
 }
 
-/// Whether code may leave at this point, whatever its stack is: it is of no function, returns or jumps outside without
-/// dropping bytes, and goes to no function of the program.
+/// Whether each of these edges leads to another function, or to the next instruction.
+fn lead_away_or_on(edges: &[Edge]) -> bool
+    ensures { result ≡ list_all (λ e. is_sibling e.kind || is_next e.kind) edges.now }
+{
+    edges.iter().all(|edge| matches!(edge.kind, EdgeKind::Sibling | EdgeKind::Next))
+}
+
+/// Whether a point returns or jumps outside without dropping bytes, and goes to no function of the program.
+fn leads_outside(point: &ModelPoint) -> bool
+    ensures { result ≡ leads_outside point.now }
+{
+    leads_out(point.role) && !drops_bytes(point.insn.op) && !has_sibling(point.goes.as_slice())
+}
+
+/// Whether a point is a joined jump: it names a symbol, leads to another function, and nowhere else but to what follows it.
+fn is_joined(point: &ModelPoint) -> bool
+    ensures { result ≡ is_joined point.now }
+{
+    point.names.is_some()
+        && has_sibling(point.goes.as_slice())
+        && lead_away_or_on(point.goes.as_slice())
+}
+
+/// Whether code may leave at this point, whatever its stack is: it is of no function, or loose, and leads outside or is a joined
+/// jump.
 fn leaves(point: &ModelPoint) -> bool
     ensures { result ≡ leaves point.now }
 {
-    point.owner.is_none()
-        && leads_out(point.role)
-        && !drops_bytes(point.insn.op)
-        && !has_sibling(point.goes.as_slice())
+    (point.owner.is_none() || point.is_loose) && (leads_outside(point) || is_joined(point))
 }
 
 /// Whether code may leave at a point, whatever its stack is.

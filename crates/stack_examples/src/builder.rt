@@ -50,11 +50,16 @@ fn point(alloc: Global, lines: &[Line], line: Line) -> ModelPoint {
         owner: line.owner,
         is_unchecked: line.is_unchecked,
         is_in_patches: line.is_in_patches,
+        is_loose: line.is_loose,
+        is_uncovered: line.is_uncovered,
         previous: previous(lines, line),
         hint: line.hint,
+        has_own_hint: line.has_own_hint,
         save_of: line.save_of,
         goes: Vec::new(alloc),
         role: line.role,
+        names: line.names,
+        is_marked_call: line.is_marked_call,
         is_dead_end: line.is_dead_end,
         marks: line.marks,
         after: Vec::new(alloc),
@@ -134,6 +139,7 @@ fn unlinked(alloc: Global, lines: &[Line], table: &Table) -> Result<Program, All
         sites: table.sites.iter().map(site).collect(alloc)?,
         texts: vec![in alloc; TextSection { sec: 1, size }]?,
         without_size,
+        is_linked: false,
     })
 }
 

@@ -30,6 +30,10 @@ pub enum With {
     Unchecked,
     /// Control comes to its section by patching alone.
     InPatches,
+    /// It runs in loose code.
+    Loose,
+    /// It stands in code that no symbol covers, behind one.
+    Uncovered,
     /// It begins a function without a size.
     WithoutSize,
     /// It is of this other function, whose name is listed as one that never returns.
@@ -38,8 +42,16 @@ pub enum With {
     To(u64, EdgeKind),
     /// It is this to its function.
     Is(Role),
+    /// It names its target by this symbol.
+    Names(u32),
+    /// It names its target by this symbol, whose name is listed as one that never returns.
+    NamesListed(u32),
+    /// It is a call behind which control comes back, whatever it calls.
+    Marked,
     /// A hint stands there.
     Hint(HintState),
+    /// The hint at the start of its site, which counts for it.
+    Counts(HintState),
     /// The RESTORE there means the SAVE at this point.
     SaveOf(u32),
     /// This is wrong with where it goes.
@@ -71,14 +83,19 @@ pub struct Line {
     pub owner: Option<u32>,
     pub is_unchecked: bool,
     pub is_in_patches: bool,
+    pub is_loose: bool,
+    pub is_uncovered: bool,
     pub is_without_size: bool,
-    /// Its function, where the name of that is listed as one that never returns.
+    /// Its function, or the symbol by which it names its target, where the name of that is listed as one that never returns.
     pub listed: Option<u32>,
     pub hint: Option<HintState>,
+    pub has_own_hint: bool,
     pub save_of: Option<u32>,
     pub goes_on: bool,
     pub branches: [Option<(u64, EdgeKind)>; 2],
     pub role: Role,
+    pub names: Option<u32>,
+    pub is_marked_call: bool,
     pub is_dead_end: bool,
     pub marks: Marks,
     /// The variant of a replacement, and the offset in section 1 where the instruction runs.
@@ -130,13 +147,18 @@ fn insn(off: u64, len: u8, op: Op) -> Line
         owner: Some(0),
         is_unchecked: false,
         is_in_patches: false,
+        is_loose: false,
+        is_uncovered: false,
         is_without_size: false,
         listed: None,
         hint: None,
+        has_own_hint: false,
         save_of: None,
         goes_on: goes_on(op),
         branches: [None, None],
         role: role_of(op),
+        names: None,
+        is_marked_call: false,
         is_dead_end: false,
         marks: NO_MARKS,
         replaces: None,
@@ -190,6 +212,34 @@ impl Line {
         }
     }
 
+    fn loose(self) -> Line {
+        Line {
+            is_loose: true,
+            ..self
+        }
+    }
+
+    fn uncovered(self) -> Line {
+        Line {
+            is_uncovered: true,
+            ..self
+        }
+    }
+
+    fn names(self, symbol: u32) -> Line {
+        Line {
+            names: Some(symbol),
+            ..self
+        }
+    }
+
+    fn marked(self) -> Line {
+        Line {
+            is_marked_call: true,
+            ..self
+        }
+    }
+
     fn listed(self, function: u32) -> Line {
         Line {
             listed: Some(function),
@@ -223,6 +273,13 @@ impl Line {
     }
 
     fn hint(self, hint: HintState) -> Line {
+        Line {
+            has_own_hint: true,
+            ..self.counts(hint)
+        }
+    }
+
+    fn counts(self, hint: HintState) -> Line {
         Line {
             hint: Some(hint),
             ..self
@@ -258,11 +315,20 @@ impl Line {
             With::OfNone => self.of_none(),
             With::Unchecked => self.unchecked(),
             With::InPatches => self.in_patches(),
+            With::Loose => self.loose(),
+            With::Uncovered => self.uncovered(),
             With::WithoutSize => self.without_size(),
             With::Listed(function) => self.listed(function),
             With::To(off, kind) => self.to(off, kind),
             With::Is(role) => self.role(role),
+            With::Names(symbol) => self.names(symbol),
+            With::NamesListed(symbol) => Line {
+                listed: Some(symbol),
+                ..self.names(symbol)
+            },
+            With::Marked => self.marked(),
             With::Hint(hint) => self.hint(hint),
+            With::Counts(hint) => self.counts(hint),
             With::SaveOf(save) => self.save_of(save),
             With::Marks(marks) => self.marks(marks),
             With::RunsAt(variant, off) => self.runs_at(variant, off),

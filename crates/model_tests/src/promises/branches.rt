@@ -13,12 +13,14 @@ use stack_examples::lines::{Table, With};
 /// Point 1 is listed as safe, and points 1 and 2.
 const SAFE_AT_1: Allowed<'static> = Allowed {
     safe_branches: &[1],
+    before_user_space: &[],
     safe_names: &[],
     lacking_smap: &[],
 };
 
 const SAFE_AT_1_AND_2: Allowed<'static> = Allowed {
     safe_branches: &[1, 2],
+    before_user_space: &[],
     safe_names: &[],
     lacking_smap: &[],
 };
@@ -215,6 +217,36 @@ const RETURN_BY_THUNK: Pair = Pair {
     },
 };
 
+/// Both points' code runs before user space does.
+const INITIAL: Allowed<'static> = Allowed {
+    safe_branches: &[],
+    before_user_space: &[1, 2],
+    safe_names: &[],
+    lacking_smap: &[],
+};
+
+const INITIAL_CALL: Pair = Pair {
+    name: "an indirect call in code that runs before user space does",
+    options: RETPOLINE,
+    wrong: Example {
+        table: CALL_TABLE,
+        allowed: NOTHING,
+        from: (0, 0x80F8, RBP, false, UNSAFE),
+        steps: &[(NEXT, (1, 0x80F8, RBP, false, UNSAFE))],
+    },
+    warnings: &[(1, rules::INDIRECT_BRANCH, 0)],
+    broken: &[Promise::SafeBranch],
+    repaired: Example {
+        table: CALL_TABLE,
+        allowed: INITIAL,
+        from: (0, 0x80F8, RBP, false, UNSAFE),
+        steps: &[
+            (NEXT, (1, 0x80F8, RBP, false, UNSAFE)),
+            (How::CallsOut, (2, 0x80F8, RBP, false, UNSAFE)),
+        ],
+    },
+};
+
 #[test]
 fn repairs_keep_promises(rt: HostRuntime) {
     expect_pair(&rt, rt.alloc(), &CALL);
@@ -222,4 +254,5 @@ fn repairs_keep_promises(rt: HostRuntime) {
     expect_pair(&rt, rt.alloc(), &TABLE_JUMP);
     expect_pair(&rt, rt.alloc(), &RETURN);
     expect_pair(&rt, rt.alloc(), &RETURN_BY_THUNK);
+    expect_pair(&rt, rt.alloc(), &INITIAL_CALL);
 }

@@ -41,6 +41,7 @@ const INSIDE: Pair = Pair {
         table: INSIDE_TABLE,
         allowed: Allowed {
             safe_branches: &[],
+            before_user_space: &[],
             safe_names: &[1],
             lacking_smap: &[],
         },
@@ -80,6 +81,7 @@ const WEAK_INSIDE: Pair = Pair {
         table: WEAK_TABLE,
         allowed: Allowed {
             safe_branches: &[],
+            before_user_space: &[],
             safe_names: &[6],
             lacking_smap: &[],
         },
@@ -92,6 +94,7 @@ const WEAK_INSIDE: Pair = Pair {
         table: WEAK_TABLE,
         allowed: Allowed {
             safe_branches: &[],
+            before_user_space: &[],
             safe_names: &[1, 6],
             lacking_smap: &[],
         },
@@ -113,6 +116,7 @@ const WEAK_OUTSIDE: Pair = Pair {
         table: WEAK_TABLE,
         allowed: Allowed {
             safe_branches: &[],
+            before_user_space: &[],
             safe_names: &[1],
             lacking_smap: &[],
         },
@@ -125,6 +129,7 @@ const WEAK_OUTSIDE: Pair = Pair {
         table: WEAK_TABLE,
         allowed: Allowed {
             safe_branches: &[],
+            before_user_space: &[],
             safe_names: &[1, 6],
             lacking_smap: &[],
         },
@@ -169,6 +174,7 @@ const OUTSIDE: Pair = Pair {
         table: OUTSIDE_TABLE,
         allowed: Allowed {
             safe_branches: &[],
+            before_user_space: &[],
             safe_names: &[7],
             lacking_smap: &[],
         },
@@ -249,6 +255,7 @@ const TAIL_CALL: Pair = Pair {
         table: TAIL_CALL_TABLE,
         allowed: Allowed {
             safe_branches: &[],
+            before_user_space: &[],
             safe_names: &[0],
             lacking_smap: &[],
         },
@@ -261,6 +268,7 @@ const TAIL_CALL: Pair = Pair {
         table: TAIL_CALL_TABLE,
         allowed: Allowed {
             safe_branches: &[],
+            before_user_space: &[],
             safe_names: &[0, 1],
             lacking_smap: &[],
         },
@@ -294,6 +302,7 @@ const JUMP_OUTSIDE: Pair = Pair {
         table: JUMP_OUTSIDE_TABLE,
         allowed: Allowed {
             safe_branches: &[],
+            before_user_space: &[],
             safe_names: &[0],
             lacking_smap: &[],
         },
@@ -306,6 +315,7 @@ const JUMP_OUTSIDE: Pair = Pair {
         table: JUMP_OUTSIDE_TABLE,
         allowed: Allowed {
             safe_branches: &[],
+            before_user_space: &[],
             safe_names: &[0, 7],
             lacking_smap: &[],
         },
@@ -332,6 +342,7 @@ const JUMP_ANYWHERE: Pair = Pair {
         table: JUMP_ANYWHERE_TABLE,
         allowed: Allowed {
             safe_branches: &[],
+            before_user_space: &[],
             safe_names: &[0],
             lacking_smap: &[],
         },
@@ -379,6 +390,7 @@ const IN_SITES: Pair = Pair {
         table: IN_SITES_TABLE,
         allowed: Allowed {
             safe_branches: &[],
+            before_user_space: &[],
             safe_names: &[],
             lacking_smap: &[0, 2],
         },
@@ -391,6 +403,7 @@ const IN_SITES: Pair = Pair {
         table: IN_SITES_TABLE,
         allowed: Allowed {
             safe_branches: &[],
+            before_user_space: &[],
             safe_names: &[1],
             lacking_smap: &[0, 2],
         },

@@ -48,6 +48,8 @@ pub const NO_OPTIONS: Options = Options {
     rethunk: false,
     uaccess: false,
     unreachable: false,
+    link: false,
+    module: false,
 };
 
 pub const FP: Options = Options {
@@ -56,6 +58,8 @@ pub const FP: Options = Options {
     rethunk: false,
     uaccess: false,
     unreachable: false,
+    link: false,
+    module: false,
 };
 
 pub const RETPOLINE: Options = Options {
@@ -64,6 +68,8 @@ pub const RETPOLINE: Options = Options {
     rethunk: false,
     uaccess: false,
     unreachable: false,
+    link: false,
+    module: false,
 };
 
 pub const RETHUNK: Options = Options {
@@ -72,6 +78,8 @@ pub const RETHUNK: Options = Options {
     rethunk: true,
     uaccess: false,
     unreachable: false,
+    link: false,
+    module: false,
 };
 
 pub const UACCESS: Options = Options {
@@ -80,11 +88,14 @@ pub const UACCESS: Options = Options {
     rethunk: false,
     uaccess: true,
     unreachable: false,
+    link: false,
+    module: false,
 };
 
 /// Nothing is listed.
 pub const NOTHING: Allowed<'static> = Allowed {
     safe_branches: &[],
+    before_user_space: &[],
     safe_names: &[],
     lacking_smap: &[],
 };
@@ -107,6 +118,8 @@ pub enum How {
     PopsFlags(bool),
     /// By a call of the entry there.
     Calls,
+    /// By a call of this entry, where control stands there.
+    CallsInto(u32),
     /// By a call of code outside, which returns.
     CallsOut,
     /// By a return.

@@ -10,7 +10,7 @@ use machine_model::{
     homes_after, next_state, started, warnings,
 };
 use ot_base::{Options, Place, Warning};
-use program_model::{Program, Region};
+use program_model::{Kept, Program, Region};
 use stack_examples::builder::program;
 use std::alloc::{AllocError, Global};
 use std::process::Abort;
@@ -46,6 +46,7 @@ impl How {
             How::Goes(kind) => goes(to, kind, false),
             How::PopsFlags(ac) => goes(to, EdgeKind::Next, ac),
             How::Calls => Choice::CallsIn { entry: to, at: to },
+            How::CallsInto(entry) => Choice::CallsIn { entry, at: to },
             How::CallsOut => Choice::CallsOut { to, stores: &[] },
             How::Returns => Choice::Returns { to, stores: &[] },
             How::TailCalls => Choice::TailCalls { to },
@@ -138,7 +139,11 @@ fn state_after(
     let allowed = &example.allowed;
     let homes = homes_after(alloc, p, allowed, choice, state.homes.as_slice())?;
     let before = Machine::At(state.standing);
-    match (next_state(alloc, p, &PLACEMENT, &before, choice)?, homes) {
+    let kept = Kept::of(alloc, p)?;
+    match (
+        next_state(alloc, p, &kept, &PLACEMENT, &before, choice)?,
+        homes,
+    ) {
         (Some(Machine::At(standing)), Some(homes)) if !allowed.lacks_smap(standing.point) => {
             Ok(Some(State { standing, homes }))
         }

@@ -1,10 +1,11 @@
 //! Programs that break a rule by which no run of them goes wrong.
 
 use super::case::{
-    Example, Harmless, NEXT, NOTHING, RBP, RETHUNK, RETPOLINE, SAFE, UACCESS, UNSAFE,
+    Example, Harmless, How, NEXT, NOTHING, RBP, RETHUNK, RETPOLINE, SAFE, UACCESS, UNSAFE,
 };
 use super::expect::expect_harmless;
-use machine_defs::Role;
+use crate::targets::JMP;
+use machine_defs::{EdgeKind, Role};
 use machine_model::Allowed;
 use operation_defs::Op;
 use ot_base::rules;
@@ -69,6 +70,7 @@ const OFF_AND_ON: Harmless = Harmless {
         },
         allowed: Allowed {
             safe_branches: &[],
+            before_user_space: &[],
             safe_names: &[0],
             lacking_smap: &[],
         },
@@ -79,6 +81,56 @@ const OFF_AND_ON: Harmless = Harmless {
         ],
     },
     warnings: &[(0, rules::SAFE_FUNCTION_ACCESS_OFF, 0)],
+};
+
+/// 9C 9D C3: user access is off, and flags that are popped keep it off.
+const POPF_OFF: Harmless = Harmless {
+    name: "flags that are popped with user access off",
+    options: UACCESS,
+    example: Example {
+        table: Table {
+            rows: &[
+                (0, 1, Op::Push, &[]),
+                (1, 1, Op::Popf, &[]),
+                (2, 1, Op::Ret, &[]),
+            ],
+            entries: &[0],
+            sites: &[],
+        },
+        allowed: NOTHING,
+        from: (0, 0x80F8, RBP, false, UNSAFE),
+        steps: &[
+            (NEXT, (1, 0x80F0, RBP, false, UNSAFE)),
+            (How::PopsFlags(true), (2, 0x80F8, RBP, false, UNSAFE)),
+        ],
+    },
+    warnings: &[],
+};
+
+/// EB 01 C3 0F 01 CA EB F8: f jumps to code of no function, which turns user access off where it is off, and jumps back.
+const OFF_IN_NONE: Harmless = Harmless {
+    name: "user access turned off where it is off, in code of no function",
+    options: UACCESS,
+    example: Example {
+        table: Table {
+            rows: &[
+                (0, 2, JMP, &[With::To(3, EdgeKind::Taken)]),
+                (2, 1, Op::Ret, &[]),
+                (3, 3, Op::Clac, &[With::OfNone]),
+                (6, 2, JMP, &[With::OfNone, With::To(2, EdgeKind::Taken)]),
+            ],
+            entries: &[0],
+            sites: &[],
+        },
+        allowed: NOTHING,
+        from: (0, 0x80F8, RBP, false, UNSAFE),
+        steps: &[
+            (How::Goes(EdgeKind::Taken), (2, 0x80F8, RBP, false, UNSAFE)),
+            (NEXT, (3, 0x80F8, RBP, false, UNSAFE)),
+            (How::Goes(EdgeKind::Taken), (1, 0x80F8, RBP, false, UNSAFE)),
+        ],
+    },
+    warnings: &[],
 };
 
 /// C3 FF E0: no run comes to the jump.
@@ -126,6 +178,8 @@ fn runs_keep_promises(rt: HostRuntime) {
     expect_harmless(&rt, rt.alloc(), &OFF_TWICE);
     expect_harmless(&rt, rt.alloc(), &ON_TWICE);
     expect_harmless(&rt, rt.alloc(), &OFF_AND_ON);
+    expect_harmless(&rt, rt.alloc(), &POPF_OFF);
+    expect_harmless(&rt, rt.alloc(), &OFF_IN_NONE);
     expect_harmless(&rt, rt.alloc(), &UNREACHED_JUMP);
     expect_harmless(&rt, rt.alloc(), &UNREACHED_RETURN);
 }

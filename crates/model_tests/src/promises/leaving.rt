@@ -63,6 +63,7 @@ const JUMP_WITH_ACCESS: Pair = Pair {
         },
         allowed: Allowed {
             safe_branches: &[],
+            before_user_space: &[],
             safe_names: &[7],
             lacking_smap: &[],
         },
@@ -88,6 +89,7 @@ const JUMP_WITH_ACCESS: Pair = Pair {
         },
         allowed: Allowed {
             safe_branches: &[],
+            before_user_space: &[],
             safe_names: &[7],
             lacking_smap: &[],
         },
@@ -124,6 +126,7 @@ const TAIL_CALL_WITH_ACCESS: Pair = Pair {
         },
         allowed: Allowed {
             safe_branches: &[],
+            before_user_space: &[],
             safe_names: &[1],
             lacking_smap: &[],
         },
@@ -157,6 +160,7 @@ const TAIL_CALL_WITH_ACCESS: Pair = Pair {
         },
         allowed: Allowed {
             safe_branches: &[],
+            before_user_space: &[],
             safe_names: &[1],
             lacking_smap: &[],
         },
@@ -182,6 +186,7 @@ const LEFT_WITHOUT_ACCESS: Pair = Pair {
         },
         allowed: Allowed {
             safe_branches: &[],
+            before_user_space: &[],
             safe_names: &[0],
             lacking_smap: &[],
         },
@@ -201,6 +206,7 @@ const LEFT_WITHOUT_ACCESS: Pair = Pair {
         },
         allowed: Allowed {
             safe_branches: &[],
+            before_user_space: &[],
             safe_names: &[0],
             lacking_smap: &[],
         },

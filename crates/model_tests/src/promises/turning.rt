@@ -1,6 +1,6 @@
 //! Rules 44, 46 and 47: instructions that turn user access on or off, or may.
 
-use super::case::{Example, How, NEXT, NOTHING, Pair, RBP, SAFE_IN_UNSAFE, UACCESS, UNSAFE};
+use super::case::{Example, How, NEXT, Pair, RBP, SAFE, SAFE_IN_UNSAFE, UACCESS, UNSAFE};
 use super::expect::expect_pair;
 use machine_defs::Role;
 use machine_model::{Allowed, Promise};
@@ -30,6 +30,7 @@ const ON_IN_SAFE: Pair = Pair {
         },
         allowed: Allowed {
             safe_branches: &[],
+            before_user_space: &[],
             safe_names: &[1],
             lacking_smap: &[],
         },
@@ -59,6 +60,7 @@ const ON_IN_SAFE: Pair = Pair {
         },
         allowed: Allowed {
             safe_branches: &[],
+            before_user_space: &[],
             safe_names: &[1],
             lacking_smap: &[],
         },
@@ -95,6 +97,7 @@ const OFF_IN_SAFE: Pair = Pair {
         },
         allowed: Allowed {
             safe_branches: &[],
+            before_user_space: &[],
             safe_names: &[1],
             lacking_smap: &[],
         },
@@ -126,6 +129,7 @@ const OFF_IN_SAFE: Pair = Pair {
         },
         allowed: Allowed {
             safe_branches: &[],
+            before_user_space: &[],
             safe_names: &[1],
             lacking_smap: &[],
         },
@@ -139,7 +143,15 @@ const OFF_IN_SAFE: Pair = Pair {
     },
 };
 
-/// 9C 9D C3: the flags that are popped have user access on; and repaired, 9C 58 C3, they are popped elsewhere.
+const SAFE_0: Allowed<'static> = Allowed {
+    safe_branches: &[],
+    before_user_space: &[],
+    safe_names: &[0],
+    lacking_smap: &[],
+};
+
+/// 9C 9D C3: f is safe, and called with user access on; the flags that are popped have it off. And repaired, 9C 58 C3, they
+/// are popped elsewhere.
 const POPF: Pair = Pair {
     name: "flags that are popped",
     options: UACCESS,
@@ -153,11 +165,11 @@ const POPF: Pair = Pair {
             entries: &[0],
             sites: &[],
         },
-        allowed: NOTHING,
-        from: (0, 0x80F8, RBP, false, UNSAFE),
+        allowed: SAFE_0,
+        from: (0, 0x80F8, RBP, true, SAFE),
         steps: &[
-            (NEXT, (1, 0x80F0, RBP, false, UNSAFE)),
-            (How::PopsFlags(true), (2, 0x80F8, RBP, true, UNSAFE)),
+            (NEXT, (1, 0x80F0, RBP, true, SAFE)),
+            (How::PopsFlags(false), (2, 0x80F8, RBP, false, SAFE)),
         ],
     },
     warnings: &[(1, rules::POPF_WITH_ACCESS_TRACKED, 0)],
@@ -172,11 +184,11 @@ const POPF: Pair = Pair {
             entries: &[0],
             sites: &[],
         },
-        allowed: NOTHING,
-        from: (0, 0x80F8, RBP, false, UNSAFE),
+        allowed: SAFE_0,
+        from: (0, 0x80F8, RBP, true, SAFE),
         steps: &[
-            (NEXT, (1, 0x80F0, RBP, false, UNSAFE)),
-            (NEXT, (2, 0x80F8, RBP, false, UNSAFE)),
+            (NEXT, (1, 0x80F0, RBP, true, SAFE)),
+            (NEXT, (2, 0x80F8, RBP, true, SAFE)),
         ],
     },
 };

@@ -7,25 +7,25 @@ use Rattle.machine_model.proofs.Lines.{leads, leads_high}
 use Rattle.machine_model.proofs.steps.moved.Goals as goal
 
 pub returns-in-GoesOn : goal.returns-in-GoesOn
-returns-in-GoesOn c = λ set.
-    leads_high _ (program_of c.args.p.now set) (bases_of c.args.placement.now) (standing_of c.args.s) (GoesOn (program_of c.args.p.now set) (standing_of c.args.s)) (goes_on (standing_of c.args.s)) c.goes_on.result (c.goes_on.ensures set)
+returns-in-GoesOn c = λ told.
+    leads_high _ (program_of c.args.p.now c.args.kept.now.may_return.items) (bases_of c.args.placement.now) (standing_of c.args.s) (GoesOn (program_of c.args.p.now c.args.kept.now.may_return.items) (standing_of c.args.s)) (goes_on (standing_of c.args.s)) c.goes_on.result (c.goes_on.ensures told)
 
 pub returns-in-Faults : goal.returns-in-Faults
-returns-in-Faults c = λ set.
-    leads _ (program_of c.args.p.now set) (bases_of c.args.placement.now) (standing_of c.args.s) (Faults (program_of c.args.p.now set) (standing_of c.args.s)) (faults (standing_of c.args.s)) c.faults.result (c.faults.ensures set)
+returns-in-Faults c = λ told.
+    leads _ (program_of c.args.p.now c.args.kept.now.may_return.items) (bases_of c.args.placement.now) (standing_of c.args.s) (Faults (program_of c.args.p.now c.args.kept.now.may_return.items) (standing_of c.args.s)) (faults (standing_of c.args.s)) c.faults.result (c.faults.ensures c.args.kept.now.may_return.items)
 
 pub returns-in-CallsIn : goal.returns-in-CallsIn
-returns-in-CallsIn c = λ set.
-    leads_high _ (program_of c.args.p.now set) (bases_of c.args.placement.now) (standing_of c.args.s) (CallsIn (program_of c.args.p.now set) (bases_of c.args.placement.now) (standing_of c.args.s)) (calls_in (standing_of c.args.s)) c.calls_in.result (c.calls_in.ensures set)
+returns-in-CallsIn c = λ told.
+    leads_high _ (program_of c.args.p.now c.args.kept.now.may_return.items) (bases_of c.args.placement.now) (standing_of c.args.s) (CallsIn (program_of c.args.p.now c.args.kept.now.may_return.items) (bases_of c.args.placement.now) (standing_of c.args.s)) (calls_in (standing_of c.args.s)) c.calls_in.result (c.calls_in.ensures c.args.kept.now.may_return.items)
 
 pub returns-in-CallsOut : goal.returns-in-CallsOut
-returns-in-CallsOut c = λ set.
-    leads _ (program_of c.args.p.now set) (bases_of c.args.placement.now) (standing_of c.args.s) (CallsOut (program_of c.args.p.now set) (standing_of c.args.s)) (calls_out (standing_of c.args.s)) c.calls_out.result (c.calls_out.ensures set)
+returns-in-CallsOut c = λ told.
+    leads _ (program_of c.args.p.now c.args.kept.now.may_return.items) (bases_of c.args.placement.now) (standing_of c.args.s) (CallsOut (program_of c.args.p.now c.args.kept.now.may_return.items) (standing_of c.args.s)) (calls_out (standing_of c.args.s)) c.calls_out.result c.calls_out.ensures
 
 pub returns-in-Returns : goal.returns-in-Returns
-returns-in-Returns c = λ set.
-    leads _ (program_of c.args.p.now set) (bases_of c.args.placement.now) (standing_of c.args.s) (Returns (program_of c.args.p.now set) (standing_of c.args.s)) (returns (standing_of c.args.s)) c.returns.result (c.returns.ensures set)
+returns-in-Returns c = λ told.
+    leads _ (program_of c.args.p.now c.args.kept.now.may_return.items) (bases_of c.args.placement.now) (standing_of c.args.s) (Returns (program_of c.args.p.now c.args.kept.now.may_return.items) (standing_of c.args.s)) (returns (standing_of c.args.s)) c.returns.result (c.returns.ensures c.args.kept.now.may_return.items)
 
 pub returns-in-TailCalls : goal.returns-in-TailCalls
-returns-in-TailCalls c = λ set.
-    leads {E = Unit {0}} _ (program_of c.args.p.now set) (bases_of c.args.placement.now) (standing_of c.args.s) (TailCalls (program_of c.args.p.now set) (standing_of c.args.s)) (tail_calls (standing_of c.args.s)) (Ok c.tail_calls.result) (c.tail_calls.ensures set)
+returns-in-TailCalls c = λ told.
+    leads {E = Unit {0}} _ (program_of c.args.p.now c.args.kept.now.may_return.items) (bases_of c.args.placement.now) (standing_of c.args.s) (TailCalls (program_of c.args.p.now c.args.kept.now.may_return.items) (standing_of c.args.s)) (tail_calls (standing_of c.args.s)) (Ok c.tail_calls.result) (c.tail_calls.ensures c.args.kept.now.may_return.items)

@@ -13,15 +13,15 @@ use Rattle.machine_model.proofs.Chosen.{at_some, weaker}
 use Rattle.machine_model.proofs.steps.step.Goals as goal
 
 pub returns-then-may_wreck : goal.returns-then-may_wreck
-returns-then-may_wreck c = λ set high. wrecks (standing_of c.args.s) (c.if-may_wreck.ensures set refl)
+returns-then-may_wreck c = λ told high. wrecks (standing_of c.args.s) (c.if-may_wreck.ensures c.args.kept.now.may_return.items refl)
 
 pub returns-in-ReturnsFromInterrupt : goal.returns-in-ReturnsFromInterrupt
-returns-in-ReturnsFromInterrupt c = λ set high. irets (standing_of c.args.s) (standing_of c.in-Some.t) (c.in-Some.ensures set)
+returns-in-ReturnsFromInterrupt c = λ told high. irets (standing_of c.args.s) (standing_of c.in-Some.t) (c.in-Some.ensures c.args.kept.now.may_return.items)
 
 pub returns : goal.returns
-returns c = λ set.
-    weaker (LandsAs (program_of c.args.p.now set) (standing_of c.in-Some-2.t))
-    (λ (m : OwnMachine). hi_of (region_of c.args.s.core.region) ≤ 2 ^ 64 → Step (program_of c.args.p.now set) (bases_of c.args.placement.now) (At (standing_of c.args.s)) (machine_of m))
-    (λ m landed high. subst (λ (x : Machine). Step (program_of c.args.p.now set) (bases_of c.args.placement.now) (At (standing_of c.args.s)) x) (sym landed.at)
-    (at_some (λ (t : Standing). hi_of (region_of c.args.s.core.region) ≤ 2 ^ 64 → LeadsTo (program_of c.args.p.now set) (bases_of c.args.placement.now) (standing_of c.args.s) (standing_of t)) _ _ c.in-Some-2.is (c.in_ok-moved-in_default.ensures set) high landed.after landed.lands))
-    c.landed.result (c.landed.ensures set)
+returns c = λ told.
+    weaker (LandsAs (program_of c.args.p.now c.args.kept.now.may_return.items) (standing_of c.in-Some-2.t))
+    (λ (m : OwnMachine). hi_of (region_of c.args.s.core.region) ≤ 2 ^ 64 → Step (program_of c.args.p.now c.args.kept.now.may_return.items) (bases_of c.args.placement.now) (At (standing_of c.args.s)) (machine_of m))
+    (λ m landed high. subst (λ (x : Machine). Step (program_of c.args.p.now c.args.kept.now.may_return.items) (bases_of c.args.placement.now) (At (standing_of c.args.s)) x) (sym landed.at)
+    (at_some (λ (t : Standing). hi_of (region_of c.args.s.core.region) ≤ 2 ^ 64 → LeadsTo (program_of c.args.p.now c.args.kept.now.may_return.items) (bases_of c.args.placement.now) (standing_of c.args.s) (standing_of t)) _ _ c.in-Some-2.is (c.in_ok-moved-in_default.ensures told) high landed.after landed.lands))
+    c.landed.result (c.landed.ensures c.args.kept.now.may_return.items)
