@@ -4,13 +4,11 @@ use Rattle.std.proofs.lemmas.Bool.{cases_lt}
 use Rattle.std.proofs.lemmas.List.{get_or_append_left, get_or_push, length-append}
 use Rattle.flow_defs.specs.Coded.{Coded}
 use Rattle.flow_defs.specs.Arrival.{decoded_insn}
-use Rattle.flow_defs.specs.Code.{alternatives_of, is_plain, point_at}
+use Rattle.flow_defs.specs.Code.{is_plain, point_at}
 use Rattle.flow_defs.specs.Marks.{has_relocated_offset}
-use Rattle.object_points.specs.Places.{is_among}
-use Rattle.point_arrivals.specs.Lists.{original_places_of}
 use Rattle.point_arrivals.specs.Kinds.{is_followed_kind, is_listed_kind, is_straight_kind, kind_of, AreKinds}
 use Rattle.point_arrivals.specs.Marks.{is_listed}
-use Rattle.point_arrivals.specs.Straight.{end_of, ends_at_next, is_next_at, is_straight, is_straight_insn, is_straight_op}
+use Rattle.point_arrivals.specs.Straight.{ends_at_next, is_before_next, is_straight, is_straight_insn, is_straight_op, may_begin_run}
 use Rattle.point_arrivals.specs.declared.kind.Kind.{Kind}
 use Rattle.point_arrivals.specs.declared.kind.Kind.TheVariants.{Straight, Followed, Unlisted, Listed}
 
@@ -35,7 +33,7 @@ pub straight_kind : (o : Coded) (n : ℕ) → is_straight_kind (kind_of o n) ≡
 straight_kind o n =
     by (is_listed o (point_at o n)) (is_plain (point_at o n))
     (is_straight_op (decoded_insn o (point_at o n)).op && not (has_relocated_offset o (point_at o n) (decoded_insn o (point_at o n))))
-    (is_next_at o n (end_of o n) && not (is_among (original_places_of (alternatives_of o)) (end_of o n)))
+    (not (may_begin_run o (point_at o n)) && is_before_next o n)
   where
     by : (listed plain straight next : Bool) → is_straight_kind (kind_by listed (plain && next) (plain && straight)) ≡ (not listed && ((plain && straight) && next))
     by true plain straight next = refl

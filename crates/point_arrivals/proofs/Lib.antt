@@ -1,3 +1,4 @@
+pub mod Aims
 pub mod LowPlaces
 pub mod LowPoints
 pub mod Numbers
@@ -5,6 +6,8 @@ pub mod Arriving
 pub mod Following
 pub mod Ending
 pub mod KindOf
+mod SamePoints
+mod Runs
 mod Remaking
 mod AllRooms
 pub mod Tableless

@@ -2,6 +2,7 @@
 use Rattle.std.proofs.Common.{◌≡◌, ℕ, ◌+◌, ◌-◌, ◌^◌, ◌<◌, ◌≤◌, false, List, length, ap, arith, if◌then◌else◌}
 use Rattle.std.proofs.lemmas.List.Elements.{All-from_recursion}
 use Rattle.std.proofs.lemmas.List.Sums.{get_or-le-sum_by}
+use Rattle.ot_base.specs.NameLists.{NameLists}
 use Rattle.flow_defs.specs.Coded.{Coded}
 use Rattle.special_sections.specs.declared.entries.AltEntry.{AltEntry}
 use Rattle.alternatives.specs.declared.texts.SectionText.{SectionText}
@@ -18,9 +19,9 @@ use Rattle.object_points.specs.Linked.{IsLinked}
 short_texts : (texts : List SectionText) → text_bytes texts ≤ 16777216 → AreShort texts
 short_texts texts little i d inside = omega (arith, little, get_or-le-sum_by (λ (t : SectionText). length t.text.bytes) texts i d inside)
 
-pub low_point : (o : Coded) (n : ℕ) → IsLinked o → text_bytes (texts_of o) ≤ 16777216 → n < length (points_of_object o) → IsKept (alternatives_of o) (point_at o n)
+pub low_point : (o : Coded) (lists : NameLists) (n : ℕ) → IsLinked o lists → text_bytes (texts_of o) ≤ 16777216 → n < length (points_of_object o) → IsKept (alternatives_of o) (point_at o n)
 unfolding points_of_object
-low_point o n linked little inside =
+low_point o lists n linked little inside =
     points_kept (texts_of o) (alternatives_of o) (short_texts (texts_of o) little) linked.sites (points_of (texts_of o) (alternatives_of o))
     (All-from_recursion (IsPoint (texts_of o) (alternatives_of o)) (points_of (texts_of o) (alternatives_of o)) (points_sound (texts_of o) (alternatives_of o)))
     n no_point inside

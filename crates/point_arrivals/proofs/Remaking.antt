@@ -4,7 +4,7 @@ use Rattle.std.proofs.Common.{◌≡◌, Bool, true, false, not, ◌&&◌, if◌
 use Rattle.std.proofs.lemmas.Bool.{false≢true}
 use Rattle.operation_defs.specs.declared.insn.Insn.{Insn}
 use Rattle.operation_defs.specs.declared.op.Op.{Op}
-use Rattle.operation_defs.specs.declared.op.Op.TheVariants.{Call, Hop, Iret, IretNext, Jmp, JmpInd, LeaBpRoom, LeaBpSp, SpOther, Switch}
+use Rattle.operation_defs.specs.declared.op.Op.TheVariants.{BpOther, Call, Hop, Iret, IretNext, Jmp, JmpInd, LeaBpRoom, LeaBpSp, SpOther, Switch}
 use Rattle.operation_defs.specs.Made.{Around, made}
 use Rattle.flow_defs.specs.Coded.{Coded}
 use Rattle.flow_defs.specs.declared.destination.Destination.{Destination}
@@ -20,18 +20,20 @@ made_same a (Call rel) is = absurd (false≢true (sym is))
 made_same a (LeaBpSp by) is = absurd (false≢true (sym is))
 made_same a Iret is = absurd (false≢true (sym is))
 made_same a Switch is = absurd (false≢true (sym is))
+made_same a SpOther is = absurd (false≢true (sym is))
 made_same a op is = refl
 
 -- an object may say all of this around an instruction
 abbrev all_is_so : Around
-all_is_so = record { intra_call = true; within = true; hinted = true; makes_room = true }
+all_is_so = record { intra_call = true; within = true; hinted = true; makes_room = true; returning = true; loads_stack = true }
 
 -- of the others something else is made there
 made_other : (op : Op) → may_be_remade op ≡ true → ((a : Around) → made a op ≡ op) → ⊥
-made_other (Call rel) is same = let e : Hop ≡ Call rel = same all_is_so in cc
+made_other (Call rel) is same = let e : Jmp rel true ≡ Call rel = same all_is_so in cc
 made_other (LeaBpSp by) is same = let e : LeaBpRoom by ≡ LeaBpSp by = same all_is_so in cc
 made_other Iret is same = let e : IretNext ≡ Iret = same all_is_so in cc
 made_other Switch is same = let e : SpOther ≡ Switch = same all_is_so in cc
+made_other SpOther is same = let e : BpOther ≡ SpOther = same all_is_so in cc
 made_other op is same = false≢true is
 
 -- one stays exactly if it is none of them
@@ -52,34 +54,21 @@ pub remade_insn : (o : Coded) (p : Point) (insn : Insn) (op : Op) → insn ≡ d
 remade_insn = insn_by
 
 -- what is so of an operation of the program, by the one that is decoded
-pub made_by_table : (a : Around) (op : Op) (to : Destination) → may_go_by_table (made a op) to ≡ may_go_by_table op to
-made_by_table a (Call rel) to = by a.intra_call
-  where
-    by : (b : Bool) → may_go_by_table (if b then Hop else Call rel) to ≡ false
-    by true = refl
-    by false = refl
-made_by_table a (LeaBpSp k) to = by a.makes_room
-  where
-    by : (b : Bool) → may_go_by_table (if b then LeaBpRoom k else LeaBpSp k) to ≡ false
-    by true = refl
-    by false = refl
-made_by_table a Iret to = by a.within
-  where
-    by : (b : Bool) → may_go_by_table (if b then IretNext else Iret) to ≡ false
-    by true = refl
-    by false = refl
-made_by_table a Switch to = by a.within a.hinted
-  where
-    by : (b c : Bool) → may_go_by_table (if b && c then SpOther else Switch) to ≡ false
-    by true true = refl
-    by true false = refl
-    by false c = refl
-made_by_table a op to = refl
+pub made_by_table : (a : Around) (op : Op) (to : Destination) → may_go_by_table (made a op) to ≡ false → may_go_by_table op to ≡ false
+made_by_table a (Jmp rel wide) to other = other
+made_by_table a (JmpInd table) to other = other
+made_by_table a op to other = refl
 
 pub made_offset : (a : Around) (op : Op) → has_stack_offset (made a op) ≡ has_stack_offset op
-made_offset a (Call rel) = by a.intra_call
+made_offset a (Call rel) = by a.returning a.intra_call
   where
-    by : (b : Bool) → has_stack_offset (if b then Hop else Call rel) ≡ false
+    by : (b c : Bool) → has_stack_offset (if b then Jmp rel true else if c then Hop else Call rel) ≡ false
+    by true c = refl
+    by false true = refl
+    by false false = refl
+made_offset a SpOther = by a.loads_stack
+  where
+    by : (b : Bool) → has_stack_offset (if b then BpOther else SpOther) ≡ false
     by true = refl
     by false = refl
 made_offset a (LeaBpSp k) = by a.makes_room
@@ -104,6 +93,11 @@ pub made_straight : (a : Around) (op : Op) → is_straight_op op ≡ true → is
 made_straight a (Call rel) h = absurd (false≢true h)
 made_straight a Iret h = absurd (false≢true h)
 made_straight a Switch h = absurd (false≢true h)
+made_straight a SpOther h = by a.loads_stack
+  where
+    by : (b : Bool) → is_straight_op (if b then BpOther else SpOther) ≡ true
+    by true = refl
+    by false = refl
 made_straight a (LeaBpSp k) h = by a.makes_room
   where
     by : (b : Bool) → is_straight_op (if b then LeaBpRoom k else LeaBpSp k) ≡ true

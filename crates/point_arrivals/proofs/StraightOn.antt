@@ -10,22 +10,24 @@ use Rattle.ot_base.specs.declared.place.Place.{Place}
 use Rattle.flow_defs.specs.Coded.{Coded}
 use Rattle.alternatives.specs.declared.point.Point.{Point}
 use Rattle.alternatives.specs.Points.{points_of}
-use Rattle.alternatives.proofs.PointOrder as order
-use Rattle.flow_defs.specs.Arrival.{after, around, arrive, decoded_insn, insn_of_object, is_at_end, is_dead_end, place_behind, site_end}
+use Rattle.flow_defs.specs.Arrival.{after, around, arrive, behind_plain, decoded_insn, insn_of_object, is_at_end, is_dead_end, place_behind, site_end}
 use Rattle.flow_defs.specs.Code.{alternatives_of, is_plain, no_point, plain_point, point_at, points_of_object, same_point, texts_of}
 use Rattle.flow_defs.specs.Edges.{fixups, is_some_place, static_targets}
 use Rattle.flow_defs.specs.Marks.{has_relocated_offset}
+use Rattle.flow_defs.specs.Sites.{site_holding}
 use Rattle.symbols_relocs.specs.NamedPlaces.{is_relocated}
 use Rattle.alternatives.specs.Texts.{behind, is_boundary}
 use Rattle.object_points.specs.Places.{is_among}
 use Rattle.object_points.proofs.Points.{known_point}
 use Rattle.point_arrivals.specs.Lists.{original_places_of}
 use Rattle.point_arrivals.specs.Marks.{is_listed}
-use Rattle.point_arrivals.specs.Straight.{end_of, ends_at_next, goes_straight, is_next_at, is_straight, is_straight_insn, is_straight_op, IsStraight}
+use Rattle.point_arrivals.specs.Straight.{end_of, ends_at_next, goes_straight, is_before_next, is_next_at, is_straight, is_straight_insn, is_straight_op, may_begin_run, IsStraight}
 use Rattle.point_arrivals.proofs.Arriving.{arrive_is, no_original, standing_at}
 use Rattle.point_arrivals.proofs.Following.{after_none, at_end_is, plain_none}
 use Rattle.point_arrivals.proofs.Numbers.{number_is}
 use Rattle.point_arrivals.proofs.Remaking.{made_offset, made_straight, straight_tableless}
+use Rattle.point_arrivals.proofs.Runs.{plain_behind}
+use Rattle.point_arrivals.proofs.SamePoints.{one_point}
 use Rattle.point_arrivals.proofs.Tableless.{tableless}
 
 -- of a point of which no list says anything
@@ -44,22 +46,6 @@ not_true false h = refl
 
 less_by : (n m : ℕ) → nat_lt n m ≡ true → n < m
 less_by n m h = grind (arith, nat_tests)
-
-sec_part : (a b i d e j : ℕ) → ((eqb a d && eqb b e) && eqb i j) ≡ true → a ≡ d
-sec_part a b i d e j same = grind (arith, nat_tests)
-
-off_part : (a b i d e j : ℕ) → ((eqb a d && eqb b e) && eqb i j) ≡ true → b ≡ e
-off_part a b i d e j same = grind (arith, nat_tests)
-
-variant_part : (a b i d e j : ℕ) → ((eqb a d && eqb b e) && eqb i j) ≡ true → i ≡ j
-variant_part a b i d e j same = grind (arith, nat_tests)
-
-pub one_point : (p q : Point) → same_point p q ≡ true → p ≡ q
-one_point p q same =
-    order.same_point p.place.sec p.place.off p.variant q
-    (sec_part p.place.sec p.place.off p.variant q.place.sec q.place.off q.variant same)
-    (off_part p.place.sec p.place.off p.variant q.place.sec q.place.off q.variant same)
-    (variant_part p.place.sec p.place.off p.variant q.place.sec q.place.off q.variant same)
 
 all_points : (o : Coded) → points_of_object o ≡ points_of (texts_of o) (alternatives_of o)
 unfolding points_of_object
@@ -92,10 +78,12 @@ same_offset : (o : Coded) (p : Point) → has_relocated_offset o p (insn_of_obje
 unfolding insn_of_object
 same_offset o p = ap (λ b. b && is_relocated o.elf p.place (decoded_insn o p).len) (made_offset (around o p) (decoded_insn o p).op)
 
--- What is so where the plain point where a plain one ends has the next number, and no site starts there: that alone follows.
+-- What is so where the plain point where a plain one ends has the next number, no run of no-ops begins at that, and no site starts
+-- there: the next alone follows.
 pub record IsFollowed (o : Coded) (n : ℕ) : Type 0 where
   pub plain : is_plain (point_at o n) ≡ true
   pub inside : n + 1 < length (points_of_object o)
+  pub ends : place_behind o (point_at o n) ≡ end_of o n
   pub next : point_at o (n + 1) ≡ plain_point (place_behind o (point_at o n))
   pub follows : after o (point_at o n) ≡ (n + 1) ∷ []
   pub goes_on : is_at_end o (point_at o n) ≡ false
@@ -105,16 +93,20 @@ followed o n is =
     let p : Point = point_at o n in
     let end : Place = end_of o n in
     let site : Bool = is_among (original_places_of (alternatives_of o)) end in
-    let plain : is_plain p ≡ true = first_so (is_plain p) (is_next_at o n end && not site) is in
-    let behind_it : (is_next_at o n end && not site) ≡ true = second_so (is_plain p) (is_next_at o n end && not site) is in
+    let run : Bool = may_begin_run o p in
+    let plain : is_plain p ≡ true = first_so (is_plain p) (not run && is_before_next o n) is in
+    let there : (not run && is_before_next o n) ≡ true = second_so (is_plain p) (not run && is_before_next o n) is in
+    let none : run ≡ false = not_true run (first_so (not run) (is_before_next o n) there) in
+    let behind_it : is_before_next o n ≡ true = second_so (not run) (is_before_next o n) there in
     let next : is_next_at o n end ≡ true = first_so (is_next_at o n end) (not site) behind_it in
     let alone : site ≡ false = not_true site (second_so (is_next_at o n end) (not site) behind_it) in
     let inside : n + 1 < length (points_of_object o) = less_by (n + 1) (length (points_of_object o)) (first_so (nat_lt (n + 1) (length (points_of_object o))) (same_point (point_at o (n + 1)) (plain_point end)) next) in
     let at : point_at o (n + 1) ≡ plain_point end = one_point (point_at o (n + 1)) (plain_point end) (second_so (nat_lt (n + 1) (length (points_of_object o))) (same_point (point_at o (n + 1)) (plain_point end)) next) in
     let here : slice_get (points_of_object o) (n + 1) ≡ Some (plain_point end) = slice_get-get_or (points_of_object o) (n + 1) no_point inside ∙ ap (λ (q : Point). Some q) at in
-    let behind_is : place_behind o p ≡ end = ap (λ b. if b then behind p.place (decoded_insn o p).len else site_end o p) plain in record {
+    let behind_is : place_behind o p ≡ end = ap (λ b. if b then behind_plain o p.place (decoded_insn o p) (site_holding o p.place) else site_end o p) plain ∙ plain_behind o p.place (decoded_insn o p) (site_holding o p.place) none in record {
       plain = plain;
       inside = inside;
+      ends = behind_is;
       next = at ∙ ap plain_point (sym behind_is);
       follows = follows_alone o p end (n + 1) plain behind_is here alone;
       goes_on = goes_on_to o p end (n + 1) plain behind_is here;
@@ -126,7 +118,7 @@ both_so a b one other = ap (λ c. c && b) one ∙ other
 pub straight_on : (o : Coded) (n : ℕ) → is_straight o n ≡ true → IsStraight o n
 straight_on o n is =
     let p : Point = point_at o n in
-    let behind_it : Bool = is_next_at o n (end_of o n) && not (is_among (original_places_of (alternatives_of o)) (end_of o n)) in
+    let behind_it : Bool = not (may_begin_run o p) && is_before_next o n in
     let goes : goes_straight o n ≡ true = second_so (not (is_listed o p)) (goes_straight o n) is in
     let insn : is_straight_insn o n ≡ true = first_so (is_straight_insn o n) behind_it goes in
     let straight : Bool = is_straight_op (decoded_insn o p).op in
@@ -141,6 +133,7 @@ straight_on o n is =
       unrelocated = same_offset o p ∙ not_true relocated (second_so straight (not relocated) decoded);
       unlisted = not_true (is_listed o p) (first_so (not (is_listed o p)) (goes_straight o n) is);
       inside = inside;
+      ends = it.ends;
       next = it.next;
       follows = it.follows;
       goes_on = it.goes_on;

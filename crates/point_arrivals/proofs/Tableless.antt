@@ -157,4 +157,4 @@ unfolding insn_of_object destination
 tableless_by o n inside other =
     let p : Point = point_at o n in
     let insn : Insn = decoded_insn o p in
-    unbegun o n inside (λ body. none_begun o p body insn insn.op (sym (made_by_table (around o p) insn.op (destination o p insn)) ∙ other))
+    unbegun o n inside (λ body. none_begun o p body insn insn.op (made_by_table (around o p) insn.op (destination o p insn) other))

@@ -19,7 +19,7 @@ use Rattle.object_points.specs.Places.{is_among, HaveSamePlaces}
 use Rattle.point_arrivals.specs.Kinds.{kind_of}
 use Rattle.point_arrivals.specs.Lists.{branch_places_of, fix_places_of, original_places_of, told_places_of}
 use Rattle.point_arrivals.specs.Marks.{is_listed}
-use Rattle.point_arrivals.specs.Straight.{end_of, ends_at_next, is_next_at, is_straight_insn, is_straight_op}
+use Rattle.point_arrivals.specs.Straight.{end_of, ends_at_next, is_before_next, is_next_at, is_straight_insn, is_straight_op, may_begin_run}
 use Rattle.point_arrivals.proofs.Ending.{other_passes}
 use Rattle.point_arrivals.proofs.KindOf.{kind_by, kind_is}
 
@@ -107,7 +107,7 @@ straight_passes o n is =
     by false straight still h = absurd (false≢true h)
 
 -- nor does a point end there that is no Ud2
-module _ (o : Coded) (n : ℕ) (told : List Place) (same : HaveSamePlaces (told_places_of o) told) (other : is_ud2 (decoded_insn o (point_at o n)).op ≡ false) (here : is_among told (point_at o n).place ≡ false) (behind : is_among told (end_of o n) ≡ false) where
+module _ (o : Coded) (n : ℕ) (told : List Place) (same : HaveSamePlaces (told_places_of o) told) (other : is_ud2 (decoded_insn o (point_at o n)).op ≡ false) (here : is_among told (point_at o n).place ≡ false) (behind : is_among told (end_of o n) ≡ false) (no_run : may_begin_run o (point_at o n) ≡ false) where
   passes : is_dead_end o (point_at o n) ≡ false
   passes =
       sym (other_passes o (point_at o n) false (sym (ap (λ b. b || ends_at o (point_at o n) (special_of o.elf).after_unreachable) other ∙ (untold o told (end_of o n) same behind).unreachable)) refl)
@@ -120,7 +120,8 @@ module _ (o : Coded) (n : ℕ) (told : List Place) (same : HaveSamePlaces (told_
 
   next : (b : Bool) → (is_plain (point_at o n) && is_next_at o n (end_of o n)) ≡ b → ends_at_next o n ≡ b
   next b is =
-      ap (λ a. is_plain (point_at o n) && (is_next_at o n (end_of o n) && not a)) (untold o told (end_of o n) same behind).original
+      ap (λ a. is_plain (point_at o n) && (not a && is_before_next o n)) no_run
+      ∙ ap (λ a. is_plain (point_at o n) && (is_next_at o n (end_of o n) && not a)) (untold o told (end_of o n) same behind).original
       ∙ with_true (is_plain (point_at o n)) (is_next_at o n (end_of o n))
       ∙ is
     where

@@ -32,6 +32,7 @@ is_listed_kind _ = false
 -- that of a point with a course, where the next one alone follows it and no list says anything of it
 abbrev pub IsFollowedKind : Course → Kind → Type 0
 IsFollowedKind course.Straight kind = kind ≡ Straight
+IsFollowedKind course.Idle kind = kind ≡ Straight
 IsFollowedKind course.Turn kind = kind ≡ Followed
 IsFollowedKind _ kind = ⊥
 

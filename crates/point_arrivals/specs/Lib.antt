@@ -1,3 +1,4 @@
+pub mod Displacements
 pub mod Low
 pub mod Next
 pub mod Remade

@@ -1,11 +1,14 @@
 -- What is kept of an object's lists of places.
-use Rattle.std.specs.Prelude.{ℕ, List, ◌++◌, map}
+use Rattle.std.specs.Prelude.{◌≡◌, ℕ, List, ◌++◌, map}
 use Rattle.ot_base.specs.declared.place.Place.{Place}
 use Rattle.flow_defs.specs.Coded.{Coded}
 use Rattle.special_sections.specs.declared.entries.AltEntry.{AltEntry}
 use Rattle.special_sections.specs.declared.entries.BranchEntry.{BranchEntry}
 use Rattle.special_sections.specs.declared.entries.FixEntry.{FixEntry}
 use Rattle.special_sections.specs.Special.{special_of}
+use Rattle.symbols_relocs.specs.declared.returning.NamedStart.{NamedStart}
+use Rattle.symbols_relocs.specs.CodeNames.{first_symbol_at}
+use Rattle.symbols_relocs.specs.NamedCode.{returning_at}
 use Rattle.object_points.specs.Places.{HaveSamePlaces, HaveSameTargets}
 use Rattle.point_arrivals.specs.Remade.{AreRooms}
 
@@ -34,6 +37,10 @@ told_places_of o =
     original_places_of (special_of o.elf).alternatives
     ++ ((special_of o.elf).after_unreachable
     ++ (branch_places_of (special_of o.elf).branches ++ fix_places_of (special_of o.elf).fixes))
+
+-- they tell where code begins that returns for its caller
+abbrev pub TellReturning : Coded → List NamedStart → Type 0
+TellReturning o starts = (place : Place) → first_symbol_at starts place ≡ returning_at o.elf place
 
 -- the places of originals; those behind which code is reachable, and isn't; those of calls within a function; where static
 -- branches lead, and exception entries; and the owners that make room

@@ -2,7 +2,7 @@
 use Rattle.std.specs.Prelude.{◌≡◌, ℕ, Bool, true, false, List, Option, Some, None, if◌then◌else◌}
 use Rattle.std.specs.List.{list_all}
 use Rattle.operation_defs.specs.declared.op.Op.{Op}
-use Rattle.operation_defs.specs.declared.op.Op.TheVariants.{Call, Iret, Jmp, JmpInd, LeaBpSp, Switch}
+use Rattle.operation_defs.specs.declared.op.Op.TheVariants.{Call, Iret, Jmp, JmpInd, LeaBpSp, SpOther, Switch}
 use Rattle.flow_defs.specs.Coded.{Coded}
 use Rattle.flow_defs.specs.declared.destination.Destination.{Destination}
 use Rattle.flow_defs.specs.declared.destination.Destination.TheVariants.{ToIndirectThunk}
@@ -17,6 +17,7 @@ may_be_remade (Call rel) = true
 may_be_remade (LeaBpSp by) = true
 may_be_remade Iret = true
 may_be_remade Switch = true
+may_be_remade SpOther = true
 may_be_remade _ = false
 
 -- an operation that may jump by a table

@@ -1,8 +1,9 @@
 //! Points with where control comes to them.
 
 ghost use Rattle.std.specs.Prelude.{◌≡◌, ◌<◌, [], ◌∷◌, length, All, IfOk, IfSome, IsTrue};
-ghost use Rattle.flow_defs.specs.Arrival.{after as points_following, arrive as points_coming_to, insn_of_object, is_at_end as is_at_an_end, is_dead_end as is_a_dead_end};
+ghost use Rattle.flow_defs.specs.Arrival.{after as points_following, arrive as points_coming_to, ends_at, insn_of_object, is_at_end as is_at_an_end, is_dead_end as is_a_dead_end};
 ghost use Rattle.flow_defs.specs.Code.{point_at, points_of_object};
+ghost use Rattle.special_sections.specs.Special.{special_of};
 ghost use Rattle.flow_defs.specs.Edges.{fixups as fixups_of, static_targets as static_targets_of};
 ghost use Rattle.point_arrivals.specs.Kinds.{kind_of};
 ghost use Rattle.point_arrivals.specs.Next.{next_alone, number_alone};
@@ -85,7 +86,8 @@ impl<'l, 'o, 'a> PointArrivals<'l, 'o, 'a> {
 
     /// Whether control goes straight on from a point: it is plain, its operation neither calls, jumps nor returns, neither
     /// leaves the code nor stops, no relocation changes a number of the stack there, no list says anything of it, and the
-    /// plain point where it ends has the next number, and no site starts there. So that point alone follows it.
+    /// plain point where it ends has the next number, no site starts there, and no run of no-ops begins at it. So that point alone
+    /// follows it.
     #[inline(always)]
     pub fn is_straight(&self, n: u32) -> bool
         requires { n < length (points_of_object self.now) }
@@ -182,8 +184,16 @@ impl<'l, 'o, 'a> PointArrivals<'l, 'o, 'a> {
         self.lists.is_dead_end(n)
     }
 
-    /// The instruction of a point: its length, and what the program makes of its decoded operation. A listed call within a
-    /// function is a `Hop`; where a function makes room, rbp is set by `LeaBpRoom`; an IRET with its function behind it is an
+    /// Whether the instruction of a point ends at a place of `.discard.reachable`.
+    pub fn ends_at_reachable(&self, n: u32) -> bool
+        requires { n < length (points_of_object self.now) }
+        ensures { result ≡ ends_at self.now (point_at self.now n) (special_of self.now.elf).after_reachable }
+    {
+        self.lists.ends_at_reachable(n)
+    }
+
+    /// The instruction of a point: its length, and what the program makes of its decoded operation. A call of code that returns for
+    /// its caller is a `Jmp`; a listed call within a function is a `Hop`; where a function makes room, rbp is set by `LeaBpRoom`; an IRET with its function behind it is an
     /// `IretNext`; and a way out by the system with its function behind it, where hints tell the stack, an `SpOther`.
     ///
     /// # Errors

@@ -2,15 +2,17 @@
 
 ghost use Rattle.std.specs.Prelude.{◌≡◌, ◌<◌, length, IfOk};
 ghost use Rattle.alternatives.specs.Texts.{behind};
-ghost use Rattle.flow_defs.specs.Arrival.{after as points_following, decoded_insn, is_at_end as is_at_an_end, place_behind as place_after};
+ghost use Rattle.flow_defs.specs.Arrival.{after as points_following, behind_plain, decoded_insn, is_at_end as is_at_an_end, place_behind as place_after};
 ghost use Rattle.flow_defs.specs.Code.{alternatives_of, point_at, points_of_object};
+ghost use Rattle.flow_defs.specs.Sites.{site_holding as site_that_holds};
 ghost use Rattle.object_points.specs.Places.{HaveSamePlaces};
 ghost use Rattle.point_arrivals.specs.Lists.{original_places_of};
 ghost use Rattle.point_arrivals.specs.Low.{AreLow};
 ghost use Rattle.point_arrivals.specs.Next.{number_of_next as number_following};
 
 use crate::arrive::arrive;
-use object_points::{PlaceSet, PointPlaces};
+use crate::runs::{is_short_nop, run_from};
+use object_points::{PlaceSet, PointPlaces, site_holding};
 use ot_base::{NoMemory, Place};
 use smallvec::SmallVec;
 use std::alloc::Global;
@@ -39,6 +41,25 @@ fn number_of_next(places: &PointPlaces<'_, '_, '_>, n: u32) -> Option<u32>
     places.linked().sites().number_behind(n)
 }
 
+/// Where control comes behind an instruction of the object's own code: a run of no-ops in a site is one instruction.
+fn place_behind_plain(places: &PointPlaces<'_, '_, '_>, n: u32) -> Place
+    requires low { AreLow places.now }
+    requires point { n < length (points_of_object places.now) }
+    ensures { let p = point_at places.now n in result ≡ behind_plain places.now p.place (decoded_insn places.now p) (site_that_holds places.now p.place) }
+{
+    if !is_short_nop(places.decoded_insn(n)) {
+        return end_of(places, n);
+    }
+    let place = places.point(n).place;
+    match site_holding(places, place) {
+        Some(site) => {
+            let off = place.off + run_from(places, n, site);
+            Place { off, ..place }
+        }
+        None => end_of(places, n),
+    }
+}
+
 /// Where control comes behind a plain point, and behind the last point of a replacement.
 fn place_behind(places: &PointPlaces<'_, '_, '_>, n: u32) -> Place
     requires low { AreLow places.now }
@@ -47,7 +68,7 @@ fn place_behind(places: &PointPlaces<'_, '_, '_>, n: u32) -> Place
 {
     let point = places.point(n);
     if point.variant == 0 {
-        return end_of(places, n);
+        return place_behind_plain(places, n);
     }
     let entry = places.linked().special().alternatives()[point.variant as usize - 1];
     let off = entry.original.off + u64::from(entry.original_len);

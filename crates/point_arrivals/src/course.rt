@@ -1,8 +1,9 @@
 //! The courses of instructions.
 
 ghost use Rattle.std.specs.Prelude.{◌≡◌, map, IfOk};
-ghost use Rattle.point_arrivals.specs.Courses.{course_of_insn, course_of_op, is_room_course};
+ghost use Rattle.point_arrivals.specs.Courses.{course_of_insn, course_of_op, is_idle_course, is_room_course};
 
+use crate::runs::is_short_nop;
 use operation_defs::{Insn, Op};
 use ot_base::NoMemory;
 use std::alloc::Global;
@@ -12,6 +13,8 @@ use std::alloc::Global;
 pub(crate) enum Course {
     /// Control goes straight on. The operation is none by a number of the stack, and makes no room.
     Straight,
+    /// The same, and the instruction is a no-op of one byte, which may begin a run of them.
+    Idle,
     /// The operation calls, jumps, returns or leaves the code.
     Turn,
     /// Control goes straight on, and room is made.
@@ -51,6 +54,13 @@ impl Course {
         }
     }
 
+    /// Whether the instruction is a no-op of one byte.
+    pub(crate) fn is_idle(self) -> bool
+        ensures { result ≡ is_idle_course self }
+    {
+        matches!(self, Course::Idle)
+    }
+
     /// Whether room is made.
     pub(crate) fn is_room(self) -> bool
         ensures { result ≡ is_room_course self }
@@ -71,9 +81,14 @@ pub(crate) struct InsnCourse {
 fn course_of(insn: Insn) -> InsnCourse
     ensures { result ≡ course_of_insn insn }
 {
+    let course = if is_short_nop(insn) {
+        Course::Idle
+    } else {
+        Course::of(insn.op)
+    };
     InsnCourse {
         len: insn.len,
-        course: Course::of(insn.op),
+        course,
     }
 }
 

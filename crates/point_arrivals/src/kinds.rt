@@ -62,7 +62,7 @@ fn kind_of(
     requires next { IsSeen lists.now (n + 1) next }
     ensures { result ≡ kind_of_point lists.now n }
 {
-    match untold_kind(lists.places().linked(), n, course, point, next) {
+    match untold_kind(lists.places(), n, course, point, next) {
         Some(kind) => kind,
         None => look_up_kind(lists, n),
     }

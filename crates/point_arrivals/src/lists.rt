@@ -7,7 +7,7 @@ ghost use Rattle.flow_defs.specs.Code.{point_at, points_of_object};
 ghost use Rattle.flow_defs.specs.Edges.{fixups as fixups_of, is_some_place, static_targets as static_targets_of};
 ghost use Rattle.object_points.specs.Places.{HaveSamePlaces};
 ghost use Rattle.point_arrivals.specs.Courses.{AreCourses};
-ghost use Rattle.point_arrivals.specs.Lists.{AreListsOf, told_places_of};
+ghost use Rattle.point_arrivals.specs.Lists.{AreListsOf, TellReturning, told_places_of};
 ghost use Rattle.point_arrivals.specs.Marks.{is_listed as is_listed_point};
 ghost use Rattle.point_arrivals.specs.Next.{number_alone};
 ghost use Rattle.point_arrivals.specs.Straight.{ends_at_next as ends_at_next_point};
@@ -18,6 +18,7 @@ use crate::courses::Courses;
 use crate::listed::{ListedPairs, ListedPlaces, list_pairs, list_places};
 use crate::low::points_are_low;
 use crate::remade::insn;
+use crate::returning::is_returning;
 use crate::rooms::{list_rooms, makes_room};
 use crate::straight::ends_at_next;
 use crate::told::told_places;
@@ -27,6 +28,7 @@ use ot_base::{NoMemory, Place};
 use smallvec::SmallVec;
 use std::alloc::Global;
 use std::marker::Model;
+use symbols_relocs::ReturningCode;
 
 /// The points of an object with its lists of places. Contracts see it as the object.
 #[derive(Drop)]
@@ -40,43 +42,48 @@ pub(crate) struct PointLists<'l, 'o, 'a> {
     fixes: PlaceMap,
     /// The owners that make room, ascending.
     rooms: Vec<u32>,
+    /// Where code begins that returns for its caller.
+    returning: ReturningCode,
 }
 
 impl<'l, 'o, 'a> Model for PointLists<'l, 'o, 'a> {
     ghost use Rattle.flow_defs.specs.Coded.{Coded};
     ghost use Rattle.point_arrivals.specs.Low.{AreLow};
-    ghost use Rattle.point_arrivals.specs.Lists.{AreListsOf};
+    ghost use Rattle.point_arrivals.specs.Lists.{AreListsOf, TellReturning};
 
     ghost Value = { Coded };
 
     ghost view = { λ a. a.places };
 
-    ghost invariant = { λ a. AreLow a.places × AreListsOf a.places a.originals a.reachable a.unreachable a.intra_calls a.branches a.fixes a.rooms.items };
+    ghost invariant = { λ a. AreLow a.places × AreListsOf a.places a.originals a.reachable a.unreachable a.intra_calls a.branches a.fixes a.rooms.items × TellReturning a.places a.returning };
 }
 
-/// All lists of places of an object, and the owners that make room.
+/// All lists of places of an object, the owners that make room, and where code begins that returns for its caller.
 #[derive(Drop)]
 struct Listed {
     places: ListedPlaces,
     pairs: ListedPairs,
     /// The owners that make room, ascending.
     rooms: Vec<u32>,
+    returning: ReturningCode,
 }
 
-/// All lists of places of an object, and the owners that make room.
+/// All lists of places of an object, the owners that make room, and where code begins that returns for its caller.
 fn list_all(
     alloc: Global,
     places: &PointPlaces<'_, '_, '_>,
     courses: Courses<'_>,
 ) -> Result<Listed, NoMemory>
     requires { AreCourses places.now courses.kinds.now courses.numbers.now }
-    ensures { IfOk result (λ l. AreListsOf places.now l.places.originals l.places.reachable l.places.unreachable l.places.intra_calls l.pairs.branches l.pairs.fixes l.rooms.items) }
+    ensures lists { IfOk result (λ l. AreListsOf places.now l.places.originals l.places.reachable l.places.unreachable l.places.intra_calls l.pairs.branches l.pairs.fixes l.rooms.items) }
+    ensures returning { IfOk result (λ l. TellReturning places.now l.returning) }
 {
     let special = places.linked().special();
     Ok(Listed {
         places: list_places(alloc, special)?,
         pairs: list_pairs(alloc, special)?,
         rooms: list_rooms(alloc, places, courses)?,
+        returning: ReturningCode::build(alloc, places.linked().index().object())?,
     })
 }
 
@@ -100,6 +107,7 @@ impl<'l, 'o, 'a> PointLists<'l, 'o, 'a> {
             },
             pairs: ListedPairs { branches, fixes },
             rooms,
+            returning,
         } = list_all(alloc, &places, courses)?;
         Ok(PointLists {
             places,
@@ -110,6 +118,7 @@ impl<'l, 'o, 'a> PointLists<'l, 'o, 'a> {
             branches,
             fixes,
             rooms,
+            returning,
         })
     }
 
@@ -175,6 +184,15 @@ impl<'l, 'o, 'a> PointLists<'l, 'o, 'a> {
         !self.reachable.contains(end)
     }
 
+    /// Whether the instruction of a point ends at a place of `.discard.reachable`.
+    pub(crate) fn ends_at_reachable(&self, n: u32) -> bool
+        requires { n < length (points_of_object self.now) }
+        ensures { result ≡ ends_at self.now (point_at self.now n) (special_of self.now.elf).after_reachable }
+    {
+        let end = end_of(&self.places, n);
+        self.reachable.contains(end)
+    }
+
     /// Whether a point is a Ud2, or its instruction ends at a place of `.discard.unreachable`.
     #[inline(always)]
     fn may_end(&self, n: u32) -> bool
@@ -203,6 +221,14 @@ impl<'l, 'o, 'a> PointLists<'l, 'o, 'a> {
         ensures { result ≡ (around self.now (point_at self.now n)).intra_call }
     {
         !self.places.is_padding(n) && self.intra_calls.contains(self.places.point(n).place)
+    }
+
+    /// Whether the call of a point goes to code that returns for its caller.
+    pub(crate) fn is_returning(&self, n: u32) -> bool
+        requires { n < length (points_of_object self.now) }
+        ensures { result ≡ (around self.now (point_at self.now n)).returning }
+    {
+        is_returning(&self.places, &self.returning, n)
     }
 
     /// Whether what owns a point makes room at one of its points. Code of no function makes none.
@@ -246,7 +272,8 @@ impl<'l, 'o, 'a> PointLists<'l, 'o, 'a> {
         has_place(self.static_targets(n)) || has_place(self.fixups(n)) || self.is_dead_end(n)
     }
 
-    /// Whether a point is plain, the plain point where it ends has the next number, and no site starts there.
+    /// Whether a point is plain, begins no run of no-ops, the plain point where it ends has the next number, and no site starts
+    /// there.
     #[inline(always)]
     pub(crate) fn ends_at_next(&self, n: u32) -> bool
         requires { n < length (points_of_object self.now) }

@@ -4,6 +4,7 @@ ghost use Rattle.std.specs.Prelude.{◌≡◌, ◌<◌, ◌&&◌, ◌↔◌, Som
 ghost use Rattle.alternatives.specs.declared.point.Point.{Point};
 ghost use Rattle.flow_defs.specs.Tables.{same_owner};
 ghost use Rattle.flow_defs.specs.Coded.{Coded};
+ghost use Rattle.operation_defs.specs.declared.op.Op.TheVariants.{Call};
 ghost use Rattle.operation_defs.specs.Made.{made as made_of, Around};
 ghost use Rattle.flow_defs.specs.Arrival.{around, decoded_insn, goes_on_behind as goes_on_in_owner, insn_of_object, tells_frame as tells_a_frame};
 ghost use Rattle.flow_defs.specs.Code.{point_at, points_of_object};
@@ -23,7 +24,7 @@ fn may_be_remade(op: Op) -> bool
 {
     matches!(
         op,
-        Op::Call { .. } | Op::LeaBpSp { .. } | Op::Iret | Op::Switch
+        Op::Call { .. } | Op::LeaBpSp { .. } | Op::Iret | Op::Switch | Op::SpOther
     )
 }
 
@@ -114,14 +115,25 @@ fn either(is: bool, chosen: Op, other: Op) -> Op
     if is { chosen } else { other }
 }
 
-/// What the program makes of the decoded operation of a point.
+/// What the program makes of a direct call at a point.
+fn made_call(lists: &PointLists<'_, '_, '_>, n: u32, rel: i32) -> Op
+    requires { n < length (points_of_object lists.now) }
+    ensures { result ≡ made_of (around lists.now (point_at lists.now n)) (Call rel) }
+{
+    if lists.is_returning(n) {
+        return Op::Jmp { rel, wide: true };
+    }
+    either(lists.is_intra_call(n), Op::Hop, Op::Call { rel })
+}
+
+/// What the program makes of the decoded operation of a point, whichever code switches tasks.
 #[inline(never)]
 fn made(alloc: Global, lists: &PointLists<'_, '_, '_>, n: u32, op: Op) -> Result<Op, NoMemory>
     requires { n < length (points_of_object lists.now) }
     ensures { IfOk result (λ made. made ≡ made_of (around lists.now (point_at lists.now n)) op) }
 {
     match op {
-        Op::Call { .. } => Ok(either(lists.is_intra_call(n), Op::Hop, op)),
+        Op::Call { rel } => Ok(made_call(lists, n, rel)),
         Op::LeaBpSp { by } => Ok(either(lists.makes_room(n), Op::LeaBpRoom { by }, op)),
         Op::Iret => Ok(either(is_within(alloc, lists, n)?, Op::IretNext, op)),
         Op::Switch => Ok(either(comes_back(alloc, lists, n)?, Op::SpOther, op)),

@@ -11,6 +11,7 @@ ghost use Rattle.point_arrivals.specs.Straight.{ends_at_next as ends_at_next_poi
 
 use crate::behind::end_of;
 use crate::relocated::has_relocated_offset;
+use crate::runs::may_begin_run;
 use alternatives::Point;
 use object_points::{PlaceSet, PointPlaces};
 use operation_defs::Op;
@@ -114,7 +115,7 @@ pub(crate) fn is_plain_before(places: &PointPlaces<'_, '_, '_>, n: u32, end: Pla
     places.point(n).variant == 0 && is_next_at(places, n, end)
 }
 
-/// Whether a point is plain, the plain point where it ends has the next number, and no site starts there.
+/// Whether a point is plain, begins no run of no-ops, the plain point where it ends has the next number, and no site starts there.
 #[inline(always)]
 pub(crate) fn ends_at_next(places: &PointPlaces<'_, '_, '_>, originals: &PlaceSet, n: u32) -> bool
     requires low { AreLow places.now }
@@ -124,6 +125,9 @@ pub(crate) fn ends_at_next(places: &PointPlaces<'_, '_, '_>, originals: &PlaceSe
 {
     let end = end_of(places, n);
     if !is_plain_before(places, n, end) {
+        return false;
+    }
+    if may_begin_run(places, n) {
         return false;
     }
     !originals.contains(end)

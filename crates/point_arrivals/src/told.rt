@@ -1,11 +1,12 @@
 //! Places of which an object's lists say something, and the kinds of the points of whose places none does.
 
-ghost use Rattle.std.specs.Prelude.{◌≡◌, ◌+◌, ◌<◌, ◌≤◌, ◌&&◌, length, IfOk, IfSome};
+ghost use Rattle.std.specs.Prelude.{◌≡◌, ◌+◌, ◌<◌, ◌≤◌, ◌&&◌, None, false, true, length, IfOk, IfSome};
 ghost use Rattle.alternatives.specs.Texts.{behind};
 ghost use Rattle.flow_defs.specs.Arrival.{decoded_insn};
 ghost use Rattle.flow_defs.specs.Code.{is_plain, plain_point, point_at, points_of_object, same_point};
+ghost use Rattle.flow_defs.specs.Sites.{site_holding};
 ghost use Rattle.object_points.specs.Places.{HaveSamePlaces};
-ghost use Rattle.point_arrivals.specs.Courses.{course_of_insn};
+ghost use Rattle.point_arrivals.specs.Courses.{course_of_insn, is_idle_course};
 ghost use Rattle.point_arrivals.specs.Kinds.{kind_of, IsFollowedKind};
 ghost use Rattle.point_arrivals.specs.Lists.{told_places_of};
 ghost use Rattle.point_arrivals.specs.Low.{AreLow};
@@ -84,33 +85,44 @@ fn followed_kind(course: Course) -> Option<Kind>
     ensures { IfSome result (IsFollowedKind course) }
 {
     match course {
-        Course::Straight => Some(Kind::Straight),
+        Course::Straight | Course::Idle => Some(Kind::Straight),
         Course::Turn => Some(Kind::Followed),
         Course::Room | Course::Offset | Course::Stop => None,
     }
+}
+
+/// Whether a run of no-ops may begin at a point with a course, told without a search: where none may, none does.
+#[inline(always)]
+fn may_begin_run(places: &PointPlaces<'_, '_, '_>, course: Course, point: Point) -> bool
+    ensures { result ≡ false → is_idle_course course ≡ true → site_holding places.now point.place ≡ None }
+{
+    course.is_idle() && places.may_be_in_site(point.place)
 }
 
 /// Of which kind a point with a course is, where no list says anything of its place and of that of the point with the next
 /// number, which stands where it ends. Of any other nothing is told.
 #[inline(always)]
 pub(crate) fn untold_kind(
-    linked: &Linked<'_, '_>,
+    places: &PointPlaces<'_, '_, '_>,
     n: u32,
     course: InsnCourse,
     point: SeenPoint,
     next: SeenPoint,
 ) -> Option<Kind>
-    requires low { AreLow linked.now }
-    requires inside { n + 1 < length (points_of_object linked.now) }
-    requires course { course ≡ course_of_insn (decoded_insn linked.now (point_at linked.now n)) }
-    requires point { IsSeen linked.now n point }
-    requires next { IsSeen linked.now (n + 1) next }
-    ensures { IfSome result (λ kind. kind ≡ kind_of linked.now n) }
+    requires low { AreLow places.now }
+    requires inside { n + 1 < length (points_of_object places.now) }
+    requires course { course ≡ course_of_insn (decoded_insn places.now (point_at places.now n)) }
+    requires point { IsSeen places.now n point }
+    requires next { IsSeen places.now (n + 1) next }
+    ensures { IfSome result (λ kind. kind ≡ kind_of places.now n) }
 {
     if point.may_be_told || next.may_be_told {
         return None;
     }
     if !is_right_behind(point.point, course.len, next.point) {
+        return None;
+    }
+    if may_begin_run(places, course.course, point.point) {
         return None;
     }
     followed_kind(course.course)

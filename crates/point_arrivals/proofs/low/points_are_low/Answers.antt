@@ -9,4 +9,4 @@ pub returns : goal.returns
 returns c =
     let o : Coded = c.args.linked.now in
     let little : text_bytes (texts_of o) ≤ 16777216 = subst (λ ts. text_bytes ts ≤ 16777216) c.texts.ensures.value c.texts.ensures.little in
-    all_low o little c.texts.ensures.linked.sites
+    all_low o little c.texts.ensures.linked.1.sites

@@ -13,4 +13,4 @@ returns-clause-low c =
     let o : Coded = c.args.places.now in
     let here : text_bytes (texts_of c.linked.result.now) ≤ 16777216 = subst (λ (texts : List SectionText). text_bytes texts ≤ 16777216) c.texts.ensures.value c.texts.ensures.little in
     let little : text_bytes (texts_of o) ≤ 16777216 = subst (λ (e : Coded). text_bytes (texts_of e) ≤ 16777216) c.linked.ensures here in
-    subst (IsKept (alternatives_of o)) (sym c.point.ensures) (low_point o c.args.n (subst IsLinked c.linked.ensures c.texts.ensures.linked) little c.requires)
+    subst (IsKept (alternatives_of o)) (sym c.point.ensures) (low_point o c.texts.ensures.linked.0 c.args.n (subst (λ (e : Coded). IsLinked e c.texts.ensures.linked.0) c.linked.ensures c.texts.ensures.linked.1) little c.requires)
