@@ -7,7 +7,7 @@ pub mod Following
 pub mod Ending
 pub mod KindOf
 mod SamePoints
-mod Runs
+mod NopRuns
 mod Remaking
 mod AllRooms
 pub mod Tableless

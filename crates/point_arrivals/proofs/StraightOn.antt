@@ -26,7 +26,7 @@ use Rattle.point_arrivals.proofs.Arriving.{arrive_is, no_original, standing_at}
 use Rattle.point_arrivals.proofs.Following.{after_none, at_end_is, plain_none}
 use Rattle.point_arrivals.proofs.Numbers.{number_is}
 use Rattle.point_arrivals.proofs.Remaking.{made_offset, made_straight, straight_tableless}
-use Rattle.point_arrivals.proofs.Runs.{plain_behind}
+use Rattle.point_arrivals.proofs.NopRuns.{plain_behind}
 use Rattle.point_arrivals.proofs.SamePoints.{one_point}
 use Rattle.point_arrivals.proofs.Tableless.{tableless}
 

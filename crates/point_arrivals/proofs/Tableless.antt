@@ -22,7 +22,8 @@ use Rattle.symbols_relocs.specs.Targets.{branch_target}
 use Rattle.flow_defs.specs.TableRegisters.{is_thunk, jumps_to_register, register_table, table_before_jump}
 use Rattle.flow_defs.specs.Tables.{entries_by, field_table, names_table, start_by, table_of}
 use Rattle.flow_defs.specs.Coded.{Coded}
-use Rattle.flow_defs.specs.Arrival.{around, decoded_insn, insn_of_object, is_padding, no_insn}
+use Rattle.flow_defs.specs.Arrival.{around, decoded_insn, insn_of_object, is_padding}
+use Rattle.flow_defs.specs.Decoded.{no_insn}
 use Rattle.flow_defs.specs.Code.{alternatives_of, point_at, points_of_object, texts_of}
 use Rattle.flow_defs.specs.Owners.{owner_of_point}
 use Rattle.flow_defs.specs.Roles.{table_of_point}

@@ -4,6 +4,7 @@ ghost use Rattle.std.specs.Prelude.{◌≡◌, ◌<◌, [], ◌∷◌, length, A
 ghost use Rattle.flow_defs.specs.Arrival.{after as points_following, arrive as points_coming_to, ends_at, insn_of_object, is_at_end as is_at_an_end, is_dead_end as is_a_dead_end};
 ghost use Rattle.flow_defs.specs.Code.{point_at, points_of_object};
 ghost use Rattle.special_sections.specs.Special.{special_of};
+ghost use Rattle.symbols_relocs.specs.NamedCode.{returning_at as returning_symbol_at};
 ghost use Rattle.flow_defs.specs.Edges.{fixups as fixups_of, static_targets as static_targets_of};
 ghost use Rattle.point_arrivals.specs.Kinds.{kind_of};
 ghost use Rattle.point_arrivals.specs.Next.{next_alone, number_alone};
@@ -182,6 +183,14 @@ impl<'l, 'o, 'a> PointArrivals<'l, 'o, 'a> {
         ensures { result ≡ is_a_dead_end self.now (point_at self.now n) }
     {
         self.lists.is_dead_end(n)
+    }
+
+    /// The symbol of the code at a place that returns for its caller. Where an object has no such code, it is told at once.
+    #[inline(always)]
+    pub fn returning_at(&self, place: Place) -> Option<u32>
+        ensures { result ≡ returning_symbol_at self.now.elf place }
+    {
+        self.lists.returning_at(place)
     }
 
     /// Whether the instruction of a point ends at a place of `.discard.reachable`.

@@ -3,6 +3,7 @@
 ghost use Rattle.std.specs.Prelude.{◌≡◌, ◌<◌, ◌||◌, [], ◌∷◌, length, All, IfOk, IfSome};
 ghost use Rattle.flow_defs.specs.Arrival.{after as points_following, around, arrive as points_coming_to, decoded_insn, ends_at, insn_of_object, is_at_end as is_at_an_end, is_dead_end as is_a_dead_end, is_ud2 as is_an_ud2};
 ghost use Rattle.special_sections.specs.Special.{special_of};
+ghost use Rattle.symbols_relocs.specs.NamedCode.{returning_at as returning_symbol_at};
 ghost use Rattle.flow_defs.specs.Code.{point_at, points_of_object};
 ghost use Rattle.flow_defs.specs.Edges.{fixups as fixups_of, is_some_place, static_targets as static_targets_of};
 ghost use Rattle.object_points.specs.Places.{HaveSamePlaces};
@@ -221,6 +222,14 @@ impl<'l, 'o, 'a> PointLists<'l, 'o, 'a> {
         ensures { result ≡ (around self.now (point_at self.now n)).intra_call }
     {
         !self.places.is_padding(n) && self.intra_calls.contains(self.places.point(n).place)
+    }
+
+    /// The symbol of the code at a place that returns for its caller.
+    #[inline(always)]
+    pub(crate) fn returning_at(&self, place: Place) -> Option<u32>
+        ensures { result ≡ returning_symbol_at self.now.elf place }
+    {
+        self.returning.symbol_at(place)
     }
 
     /// Whether the call of a point goes to code that returns for its caller.

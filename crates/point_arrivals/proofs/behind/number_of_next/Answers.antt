@@ -1,7 +1,7 @@
 use Rattle.std.proofs.Common.{◌≡◌, ℕ, ◌<◌, false, List, length, sym, ap, ◌∙◌, subst, arith}
 use Rattle.flow_defs.specs.Coded.{Coded}
 use Rattle.alternatives.specs.declared.point.Point.{Point}
-use Rattle.flow_defs.specs.Arrival.{no_insn}
+use Rattle.flow_defs.specs.Decoded.{no_insn}
 use Rattle.flow_defs.specs.Code.{is_plain, point_at, points_of_object}
 use Rattle.object_points.proofs.Points.{is_replaced}
 use Rattle.point_arrivals.specs.Next.{number_of_next}

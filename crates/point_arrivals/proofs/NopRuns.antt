@@ -1,9 +1,10 @@
 -- Runs of no-ops, and where control comes behind an instruction that begins none.
-use Rattle.std.proofs.Common.{◌≡◌, ℕ, zero, suc, ◌+◌, ◌<◌, ◌≤◌, Bool, true, false, cond, ◌&&◌, if◌then◌else◌, List, [], ◌∷◌, length, Option, Some, None, refl, sym, ap, ◌∙◌, arith}
-use Rattle.std.specs.Prelude.{find, is_some, unwrap_or}
+use Rattle.std.proofs.Common.{◌≡◌, ℕ, zero, suc, ◌+◌, ◌-◌, ◌<◌, ◌≤◌, Bool, true, false, cond, eqb, ◌&&◌, if◌then◌else◌, List, [], ◌∷◌, length, Option, Some, None, refl, sym, ap, ◌∙◌, subst, arith}
+use Rattle.std.specs.Prelude.{find, is_some, nat_le, nat_lt, unwrap_or}
 use Rattle.std.specs.Option.{option_map_or}
 use Rattle.std.specs.List.{range_with_len, take_while}
 use Rattle.std.proofs.lemmas.Bool.{and_left, false≢true}
+use Rattle.std.proofs.lemmas.Bool.Decides.{nat_tests}
 use Rattle.std.proofs.lemmas.List.Quantifiers.{position-Some}
 use Rattle.std.proofs.lemmas.List.Sums.{take_while-cons}
 use Rattle.ot_base.specs.declared.place.Place.{Place}
@@ -12,7 +13,8 @@ use Rattle.machine_defs.specs.Program.{in_site, Site}
 use Rattle.alternatives.specs.declared.point.Point.{Point}
 use Rattle.alternatives.specs.Texts.{behind, insn_at}
 use Rattle.flow_defs.specs.Coded.{Coded}
-use Rattle.flow_defs.specs.Arrival.{behind_plain, decoded_insn, is_short_nop, is_short_nop_at, no_insn, run_from}
+use Rattle.flow_defs.specs.Arrival.{behind_plain, decoded_insn, is_short_nop, is_short_nop_at, run_from}
+use Rattle.flow_defs.specs.Decoded.{no_insn}
 use Rattle.flow_defs.specs.Code.{no_point, number_of, plain_point, point_at, points_of_object, same_point, texts_of}
 use Rattle.flow_defs.specs.Sites.{site_holding, sites_of}
 use Rattle.point_arrivals.specs.Low.{AreLow}
@@ -42,11 +44,11 @@ passing f a (suc n) (suc k) most pass stops =
 -- what is found passes
 found_passes : {X : Type 0} (p : X → Bool) (xs : List X) (x : X) → find p xs ≡ Some x → p x ≡ true
 found_passes p [] x is = let bad : ⊥ = cc in absurd bad
-found_passes p (y ∷ xs) x is = by (p y) refl is
+found_passes p (y ∷ xs) x is = by (p y) refl (found_passes p xs x) is
   where
-    by : (b : Bool) → p y ≡ b → cond b (Some y) (find p xs) ≡ Some x → p x ≡ true
-    by true passes h = let same : y ≡ x = cc in sym (ap p same) ∙ passes
-    by false fails h = found_passes p xs x h
+    by : (b : Bool) → p y ≡ b → (find p xs ≡ Some x → p x ≡ true) → cond b (Some y) (find p xs) ≡ Some x → p x ≡ true
+    by true passes rest h = let same : y ≡ x = cc in sym (ap p same) ∙ passes
+    by false fails rest h = rest h
 
 pub held : (o : Coded) (place : Place) (site : Site) → site_holding o place ≡ Some site → in_site site place ≡ true
 unfolding site_holding
@@ -86,3 +88,15 @@ pub behind_run : (o : Coded) (place : Place) (insn : Insn) (site : Site) (found 
 behind_run o place insn site found short is =
     ap (behind_plain o place insn) is
     ∙ ap (λ b. if b then behind place (run_from o place site) else behind place insn.len) short
+
+-- what is left of a site from one of its places on
+left_of : (sec start len place_sec off : ℕ) → (eqb sec place_sec && (nat_le start off && nat_lt off (start + len))) ≡ true → len - (off - start) ≡ start + len - off
+left_of sec start len place_sec off inside = grind (arith, nat_tests)
+
+pub left_is : (site : Site) (place : Place) → in_site site place ≡ true → site.len - (place.off - site.start.off) ≡ site.start.off + site.len - place.off
+left_is site place inside = left_of site.start.sec site.start.off site.len place.sec place.off inside
+
+-- the run is as long as no-ops follow each other in the site
+pub run_is : (o : Coded) (place : Place) (site : Site) (k : ℕ) → in_site site place ≡ true → k ≤ site.len - (place.off - site.start.off) → ((i : ℕ) → i < k → is_short_nop_at o place.sec (place.off + i) ≡ true) → (k < site.len - (place.off - site.start.off) → is_short_nop_at o place.sec (place.off + k) ≡ false) → k ≡ run_from o place site
+run_is o place site k inside most pass stops =
+    sym (passing (is_short_nop_at o place.sec) place.off (site.start.off + site.len - place.off) k (subst (λ m. k ≤ m) (left_is site place inside) most) pass (λ more. stops (subst (λ m. k < m) (sym (left_is site place inside)) more)))
