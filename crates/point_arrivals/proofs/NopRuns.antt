@@ -17,8 +17,6 @@ use Rattle.flow_defs.specs.Arrival.{behind_plain, decoded_insn, is_short_nop, is
 use Rattle.flow_defs.specs.Decoded.{no_insn}
 use Rattle.flow_defs.specs.Code.{no_point, number_of, plain_point, point_at, points_of_object, same_point, texts_of}
 use Rattle.flow_defs.specs.Sites.{site_holding, sites_of}
-use Rattle.point_arrivals.specs.Low.{AreLow}
-use Rattle.point_arrivals.specs.Straight.{may_begin_run}
 use Rattle.point_arrivals.proofs.Numbers.{has_number}
 use Rattle.point_arrivals.proofs.SamePoints.{one_point}
 

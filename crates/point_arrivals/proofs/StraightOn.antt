@@ -1,5 +1,5 @@
 -- Points from which control goes straight on.
-use Rattle.std.proofs.Common.{◌≡◌, ℕ, ◌+◌, ◌<◌, Bool, true, false, not, eqb, ◌&&◌, ◌||◌, List, [], ◌∷◌, length, if◌then◌else◌, Some, refl, sym, ap, ◌∙◌, subst, arith}
+use Rattle.std.proofs.Common.{◌≡◌, ℕ, ◌+◌, ◌<◌, Bool, true, false, not, ◌&&◌, ◌||◌, List, [], ◌∷◌, length, if◌then◌else◌, Some, refl, sym, ap, ◌∙◌, subst, arith}
 use Rattle.std.specs.Prelude.{is_none, nat_lt, slice_get}
 use Rattle.std.specs.Cmp.{first_so, second_so}
 use Rattle.std.specs.List.{cons_option}
@@ -16,7 +16,7 @@ use Rattle.flow_defs.specs.Edges.{fixups, is_some_place, static_targets}
 use Rattle.flow_defs.specs.Marks.{has_relocated_offset}
 use Rattle.flow_defs.specs.Sites.{site_holding}
 use Rattle.symbols_relocs.specs.NamedPlaces.{is_relocated}
-use Rattle.alternatives.specs.Texts.{behind, is_boundary}
+use Rattle.alternatives.specs.Texts.{is_boundary}
 use Rattle.object_points.specs.Places.{is_among}
 use Rattle.object_points.proofs.Points.{known_point}
 use Rattle.point_arrivals.specs.Lists.{original_places_of}

@@ -1,13 +1,10 @@
-use Rattle.std.proofs.Common.{◌≡◌, true, false, if◌then◌else◌, Option, Some, None, sym, ap, ◌∙◌}
-use Rattle.std.specs.Prelude.{option_map, is_some}
-use Rattle.ot_base.specs.declared.place.Place.{Place}
-use Rattle.operation_defs.specs.declared.insn.Insn.{Insn}
-use Rattle.machine_defs.specs.Program.{Site}
+use Rattle.std.proofs.Common.{◌≡◌, true, false, Some, None, sym, ap, ◌∙◌}
+use Rattle.std.specs.Prelude.{option_map}
 use Rattle.program_graph.specs.Tells.{site_of}
 use Rattle.alternatives.specs.declared.point.Point.{Point}
 use Rattle.alternatives.specs.Texts.{behind}
 use Rattle.flow_defs.specs.Coded.{Coded}
-use Rattle.flow_defs.specs.Arrival.{behind_plain, decoded_insn, is_short_nop, run_from}
+use Rattle.flow_defs.specs.Arrival.{behind_plain, decoded_insn, is_short_nop}
 use Rattle.flow_defs.specs.Code.{point_at}
 use Rattle.flow_defs.specs.Sites.{site_holding}
 use Rattle.point_arrivals.proofs.NopRuns.{behind_long, behind_run, held}

@@ -1,9 +1,8 @@
-use Rattle.std.proofs.Common.{◌≡◌, ◌<◌, ◌≤◌, ℕ, length, Option, Some, None, sym, ap, ◌∙◌, subst}
-use Rattle.ot_base.specs.declared.place.Place.{Place}
+use Rattle.std.proofs.Common.{◌≡◌, ◌≤◌, Some, sym, ap, ◌∙◌, subst}
 use Rattle.alternatives.specs.declared.point.Point.{Point}
 use Rattle.flow_defs.specs.Coded.{Coded}
 use Rattle.flow_defs.specs.Arrival.{is_short_nop}
-use Rattle.flow_defs.specs.Code.{number_of, plain_point, point_at, points_of_object}
+use Rattle.flow_defs.specs.Code.{number_of, plain_point}
 use Rattle.point_arrivals.proofs.NopRuns.{none_there, numbered, short_there}
 use Rattle.point_arrivals.proofs.runs.is_short_nop_at.Goals as goal
 

@@ -1,6 +1,5 @@
 use Rattle.std.proofs.Common.{◌≡◌, ℕ, ◌+◌, ◌<◌, ◌≤◌, true}
 use Rattle.flow_defs.specs.Arrival.{is_short_nop_at}
-use Rattle.flow_defs.specs.Code.{point_at}
 use Rattle.point_arrivals.proofs.runs.run_from.Given as goal
 
 abbrev pub invariant-loop-k : goal.invariant-loop-k
