@@ -8,10 +8,9 @@
 # FOLDER/expected-all-opcodes), and the rows of accepted objects with FOLDER/linux-rows/NAME.rows, which has those of Linux's objtool in
 # the form of `dump`.
 #
-# With OBJTOOL_LINUX=PROGRAM Linux's objtool is run on a copy of each object, and told is of how many it warns, by the text; at which
-# places its rows of accepted objects are different, by the cause; and how many places of site lists `sites` or Linux alone has, by the
-# cause, which is no fault: Linux lists no calls of initial code, of replacements and of static calls. LINUX_OPTIONS are its options,
-# `--orc` where they aren't given.
+# With OBJTOOL_LINUX=PROGRAM Linux's objtool is run on a copy of each object, and told is of how many it warns, by the text; and at which
+# places its rows of accepted objects are different, by the cause. LINUX_OPTIONS are its options, `--orc` where they aren't given.
+# (sites.sh compares site lists.)
 #
 # MODEL=1 asks the model (tools/model) in the place of the program. JOBS is how many processes share the objects, one a processor where
 # it isn't given. Rows of `.altinstr_aux` aren't compared, for which Linux writes none. Ends with status 1 where something differs.

@@ -15,7 +15,6 @@ from typing import NamedTuple, Optional
 from linux_rows import Difference, by_linux, count, differences, dumped
 
 STATUSES = ["accepted", "warned", "refused"]
-LISTS = {"retpoline": ".retpoline_sites", "return": ".return_sites", "call": ".call_sites"}
 # How long a program may take for an object, in seconds.
 SECONDS = 120
 AUX = ".altinstr_aux"
@@ -57,7 +56,7 @@ def by_model(path: str, options: list[str]) -> Answer:
 
 class Found(NamedTuple):
     """What was found of an object: its status, why it is not accepted, whether it was as expected, how many rows were compared, where
-    they aren't those of Linux, of what Linux warns, and how many places of site lists were compared and are in one list alone."""
+    they aren't those of Linux, and of what Linux warns."""
 
     name: str
     status: int
@@ -67,8 +66,6 @@ class Found(NamedTuple):
     rows: Optional[int]
     differences: list[Difference]
     warnings: list[str]
-    places: int
-    lone: list[Difference]
 
 
 def without_aux(rows: dict) -> dict:
@@ -102,50 +99,6 @@ def is_expected(folder: Path, name: str, answer: Answer) -> Optional[bool]:
     return (answer.status, answer.lines) == (int(status.read_text()), lines.read_text().splitlines())
 
 
-def relocations(path: str) -> dict[str, list[tuple[int, str, str]]]:
-    """The relocations of each section as readelf shows them: offset, symbol, and symbol with addend."""
-    found, own = {}, None
-    for line in ran("readelf", "-rW", path).lines:
-        head = re.match(r"Relocation section '\.rela(\S+)'", line)
-        own = found.setdefault(head[1], []) if head else own
-        words = line.split()
-        if len(words) == 7 and words[2].startswith("R_X86_64"):
-            own.append((int(words[0], 16), words[4], f"{words[4]}+0x{int(words[6], 16):x}"))
-    return found
-
-
-def site_places(path: str) -> set[str]:
-    """The places of the site lists of an object, each with its list."""
-    there = relocations(path)
-    return {f"{kind} {place}" for kind, section in LISTS.items() for _, _, place in there.get(section, [])}
-
-
-# Code of which Linux lists no calls: what is gone once it has run, and what is only copied to elsewhere.
-UNLISTED = {".init.text": "initial code", ".head.text": "initial code", ".altinstr_replacement": "replacements"}
-
-
-def cause_of_site(place: str, callees: dict[str, str]) -> str:
-    """What sets a place of a site list apart, where that is known. Linux lists static calls in a section of their own."""
-    kind, where = place.split()
-    if callees.get(where, "").startswith("__SCT__"):
-        return f"{kind} sites of static calls"
-    code = next((what for section, what in UNLISTED.items() if where.startswith(section)), "")
-    return f"{kind} sites" + (f" in {code}" if code else "")
-
-
-def lone_places(program: str, linux: str, path: str, options: list[str]) -> tuple[int, list[Difference]]:
-    """How many places `sites` lists, and those that it or Linux alone does; no place where the object isn't given lists."""
-    if ran(program, "sites", path, "listed.o", *options).status:
-        return 0, []
-    shutil.copy(path, "by-linux.o")
-    ran(linux, "--retpoline", "--rethunk", "--hacks=skylake", "by-linux.o")
-    here, there = site_places("listed.o"), site_places("by-linux.o")
-    # (a call's displacement stands behind its opcode)
-    callees = {f"{section}+{offset - 1:#x}": symbol for section, own in relocations(path).items() for offset, symbol, _ in own}
-    lone = [Difference(cause_of_site(place, callees) + " here alone", place, place, "") for place in sorted(here - there)]
-    return len(here), lone + [Difference(cause_of_site(place, callees) + " by Linux alone", place, "", place) for place in sorted(there - here)]
-
-
 def look_at(folder: Path, path: Path, program: str, linux: str, options: list[str]) -> Found:
     name = str(path.relative_to(folder / "objects" if (folder / "objects").is_dir() else folder).with_suffix(""))
     with tempfile.TemporaryDirectory() as scratch:
@@ -165,9 +118,8 @@ def look_at(folder: Path, path: Path, program: str, linux: str, options: list[st
             here = without_aux(dumped(answer.rows))
             differ = [it for there in told for it in differences(here, without_aux(there))]
             rows = count(here)
-        places, lone = lone_places(program, linux, str(path), options) if linux and program else (0, [])
         os.chdir("/")
-    return Found(name, answer.status, causes_of(answer), (answer.lines or [""])[0], expected, rows, list(dict.fromkeys(differ)), warnings, places, lone)
+    return Found(name, answer.status, causes_of(answer), (answer.lines or [""])[0], expected, rows, list(dict.fromkeys(differ)), warnings)
 
 
 def print_counts(counts: Counter[str], form: str) -> None:
@@ -211,10 +163,6 @@ def main(folder: str, program: str, linux: str, *options: str) -> int:
         for status, word in enumerate(STATUSES):
             print(f"Linux warns of {sum(it.status == status and bool(it.warnings) for it in found)} that are {word} here")
         print_counts(Counter(text for it in found for text in it.warnings), "  by Linux {number}: {text}")
-    lone = [(it.name, it.lone) for it in found if it.lone]
-    if linux and program:
-        print(f"{sum(it.places for it in found)} places of site lists, those of {len(lone)} objects not as Linux's")
-        print_causes(lone)
     return 0 if found and not (others or unexpected or differ) else 1
 
 
