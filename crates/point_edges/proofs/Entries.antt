@@ -5,11 +5,12 @@ use Rattle.std.proofs.lemmas.Bool.{false≢true}
 use Rattle.std.proofs.lemmas.List.Quantifiers.{position-Some}
 use Rattle.ot_base.specs.declared.place.Place.{Place}
 use Rattle.alternatives.specs.Texts.{is_boundary}
+use Rattle.operation_defs.specs.declared.insn.Insn.{Insn}
 use Rattle.operation_defs.specs.declared.op.Op.{Op}
 use Rattle.operation_defs.specs.declared.op.Op.TheVariants as ops
 use Rattle.flow_defs.specs.Coded.{Coded}
 use Rattle.machine_defs.specs.declared.flow.Role.{Role}
-use Rattle.machine_defs.specs.declared.flow.Role.TheVariants.{Plain, CallIn, CallEither}
+use Rattle.machine_defs.specs.declared.flow.Role.TheVariants.{Plain, CallIn, CallEither, CallOut, JumpOut}
 use Rattle.alternatives.specs.declared.point.Point.{Point}
 use Rattle.flow_defs.specs.declared.destination.Destination.{Destination}
 use Rattle.flow_defs.specs.declared.destination.Destination.TheVariants.{ToPlace, ToOwnPoint, ToOutside, ToIndirectThunk, ToReturnThunk, ToNowhere}
@@ -18,16 +19,21 @@ use Rattle.flow_defs.specs.declared.destination.Way.TheVariants as ways
 use Rattle.flow_defs.specs.Arrival.{insn_of_object, is_padding}
 use Rattle.flow_defs.specs.Code.{no_point, number_of, plain_point, points_of_object, same_point, texts_of}
 use Rattle.flow_defs.specs.Owners.{unchecked_start}
-use Rattle.flow_defs.specs.Roles.{call_by, call_role, entry_call, is_called, jump_by_table, jump_by_way, jump_role, place_call, plain_number, role_by, role_of, table_of_point}
+use Rattle.flow_defs.specs.Roles.{call_by, call_of_gate, call_role, entry_call, gate_called, is_called, jump_by_table, jump_by_way, jump_role, place_call, plain_number, returns_through, role_by, role_of, role_through, table_of_point}
 use Rattle.flow_defs.specs.Targets.{destination_of}
 use Rattle.flow_defs.specs.Ways.{jump_way}
-use Rattle.point_edges.proofs.Aims.{has_number}
+use Rattle.point_arrivals.proofs.Aims.{has_number}
 
 -- the entry that a role calls
 abbrev entry_called : Role → Option ℕ
 entry_called (CallIn entry) = Some entry
 entry_called (CallEither entry sym) = Some entry
 entry_called _ = None
+
+-- what is no symbol is none
+pub not_some : (x : Option ℕ) → ((n : ℕ) → x ≡ Some n → ⊥) → x ≡ None
+not_some None none = refl
+not_some (Some n) none = absurd (none n refl)
 
 -- it is a point
 abbrev IsKnown : Coded → Role → Type 0
@@ -48,13 +54,17 @@ module _ (o : Coded) where
   entry_known n None inside entry is = let same : n ≡ entry = cc in subst (λ k. k < length (points_of_object o)) same inside
   entry_known n (Some sym) inside entry is = let same : n ≡ entry = cc in subst (λ k. k < length (points_of_object o)) same inside
 
-  entered : (place : Place) (weak : Option ℕ) (b : Bool) → is_boundary (texts_of o) place ≡ true → IsKnown o (if b then entry_call (plain_number o place) weak else Plain)
-  entered place weak true boundary = entry_known (plain_number o place) weak (plain_inside place boundary)
-  entered place weak false boundary = none_called o Plain refl
+  gate_known : (gate : Option ℕ) → IsKnown o (call_of_gate gate)
+  gate_known None = none_called o Plain refl
+  gate_known (Some sym) = none_called o (CallOut sym) refl
+
+  entered : (place : Place) (weak gate : Option ℕ) (b : Bool) → is_boundary (texts_of o) place ≡ true → IsKnown o (if b then entry_call (plain_number o place) weak else call_of_gate gate)
+  entered place weak gate true boundary = entry_known (plain_number o place) weak (plain_inside place boundary)
+  entered place weak gate false boundary = gate_known gate
 
   started : (from : Point) (place : Place) (weak start : Option ℕ) → is_boundary (texts_of o) place ≡ true → IsKnown o (call_by o from place weak start)
   started from place weak (Some f) boundary = none_called o (call_by o from place weak (Some f)) refl
-  started from place weak None boundary = entered place weak (is_called o from place) boundary
+  started from place weak None boundary = entered place weak (gate_called o from place) (is_called o from place) boundary
 
   bounded : (from : Point) (place : Place) (weak : Option ℕ) (b : Bool) → is_boundary (texts_of o) place ≡ b → IsKnown o (if b then call_by o from place weak (unchecked_start o.elf place) else Plain)
   bounded from place weak true boundary = started from place weak (unchecked_start o.elf place) boundary
@@ -101,12 +111,25 @@ module _ (o : Coded) where
   op_known point (ops.JmpInd table) = none_called o (jump_by_table (table_of_point o point)) (table_calls (table_of_point o point))
   op_known point op = none_called o (role_by o point op) refl
 
+  through_known : (point : Point) (through : Option ℕ) → IsKnown o (role_through o point through)
+  through_known point None = op_known point (insn_of_object o point).op
+  through_known point (Some sym) = none_called o (JumpOut sym) refl
+
   role_known : (point : Point) → IsKnown o (role_of o point)
   unfolding role_of
-  role_known point = op_known point (insn_of_object o point).op
+  role_known point = through_known point (returns_through o point)
 
   pub call_inside : (point : Point) (entry : ℕ) → role_of o point ≡ CallIn entry → entry < length (points_of_object o)
   call_inside point entry is = role_known point entry (ap entry_called is)
 
   pub weak_call_inside : (point : Point) (entry sym : ℕ) → role_of o point ≡ CallEither entry sym → entry < length (points_of_object o)
   weak_call_inside point entry sym is = role_known point entry (ap entry_called is)
+
+  -- the role by whether the point returns through code that returns for its caller
+  pub role_as_through : (point : Point) (through : Option ℕ) (symbol : ℕ) → through ≡ returns_through o point → through ≡ Some symbol → JumpOut symbol ≡ role_of o point
+  unfolding role_of
+  role_as_through point through symbol is some = ap (role_through o point) (sym some ∙ is)
+
+  pub role_as_by : (point : Point) (insn : Insn) (through : Option ℕ) → through ≡ returns_through o point → through ≡ None → insn ≡ insn_of_object o point → role_by o point insn.op ≡ role_of o point
+  unfolding role_of
+  role_as_by point insn through is none own = ap (λ (i : Insn). role_by o point i.op) own ∙ ap (role_through o point) (sym none ∙ is)

@@ -1,5 +1,6 @@
 -- The edges of the points of an object lead to points.
-use Rattle.std.proofs.Common.{ℕ, ◌<◌, Bool, true, false, List, [], ◌∷◌, ◌++◌, length, All, if◌then◌else◌}
+use Rattle.std.proofs.Common.{ℕ, ◌<◌, Bool, true, false, List, [], ◌∷◌, ◌++◌, length, All, Option, Some, None, if◌then◌else◌}
+use Rattle.std.specs.Prelude.{is_some}
 use Rattle.std.specs.List.{flat_map}
 use Rattle.std.proofs.lemmas.List.Elements.{All-append, All-map, All-nil}
 use Rattle.ot_base.specs.declared.place.Place.{Place}
@@ -20,7 +21,7 @@ use Rattle.flow_defs.specs.Arrival.{after, arrive, insn_of_object}
 use Rattle.flow_defs.specs.Code.{numbers_of, points_of_object}
 use Rattle.flow_defs.specs.Edges.{branch_edges, branch_edges_by, edges_to, fixups, goes, goes_on, hop_edges, jump_edges, listed_edges, next_edges, static_targets, table_edges, way_edges}
 use Rattle.flow_defs.specs.Owners.{is_unchecked_point, owner_of_point}
-use Rattle.flow_defs.specs.Roles.{table_of_point}
+use Rattle.flow_defs.specs.Roles.{returns_through, table_of_point}
 use Rattle.flow_defs.specs.Sites.{is_into_site}
 use Rattle.flow_defs.specs.Targets.{destination_of}
 use Rattle.flow_defs.specs.Ways.{hop_way, jump_way, listed_way}
@@ -69,6 +70,13 @@ branch_inside o point (Jcc rel wide) = jump_inside o point (destination_of o poi
 branch_inside o point Hop = hop_inside o point (destination_of o point)
 branch_inside o point _ = none o
 
+through_inside : (o : Coded) (point : Point) → LeadInside o (branch_edges o point)
+through_inside o point = by (returns_through o point)
+  where
+    by : (through : Option ℕ) → LeadInside o (if is_some through then [] else branch_edges_by o point (insn_of_object o point).op)
+    by None = branch_inside o point (insn_of_object o point).op
+    by (Some sym) = none o
+
 places_inside : (o : Coded) (edges_of : Place → List Edge) → ((place : Place) → LeadInside o (edges_of place)) → (places : List Place) → LeadInside o (flat_map edges_of places)
 places_inside o edges_of each [] = none o
 places_inside o edges_of each (place ∷ places) = both o (edges_of place) (flat_map edges_of places) (each place) (places_inside o edges_of each places)
@@ -94,7 +102,7 @@ goes_inside o point = by (is_unchecked_point o point)
     parts : LeadInside o (next_edges o point ++ (branch_edges o point ++ (listed_edges o Taken point (static_targets o point) ++ (listed_edges o Fixup point (fixups o point) ++ table_edges o point))))
     parts =
         both o (next_edges o point) _ (next_inside o point)
-        (both o (branch_edges o point) _ (branch_inside o point (insn_of_object o point).op)
+        (both o (branch_edges o point) _ (through_inside o point)
         (both o (listed_edges o Taken point (static_targets o point)) _ (listed_inside o Taken point (static_targets o point))
         (both o (listed_edges o Fixup point (fixups o point)) _ (listed_inside o Fixup point (fixups o point))
         (table_inside o point))))

@@ -1,5 +1,4 @@
 pub mod Points
-pub mod Aims
 mod Numbered
 mod Plain
 mod Pushing
@@ -10,6 +9,8 @@ mod Within
 mod Entries
 mod MarksWithin
 mod Parts
+mod Through
+mod Callees
 pub mod Standing
 pub mod Bytes
 pub mod KnownTexts

@@ -8,7 +8,7 @@ use Rattle.symbols_relocs.specs.Parts.{owner_at}
 use Rattle.flow_defs.specs.Coded.{Coded}
 use Rattle.flow_defs.specs.Code.{number_of, plain_point, point_at, texts_of}
 use Rattle.flow_defs.specs.Owners.{owner_of_point}
-use Rattle.point_edges.proofs.Aims.{has_number}
+use Rattle.point_arrivals.proofs.Aims.{has_number}
 
 -- a place is a boundary where the plain point there has a number
 pub plain_boundary : (o : Coded) (place : Place) (found : Option ℕ) → found ≡ number_of o (plain_point place) → is_some found ≡ is_boundary (texts_of o) place

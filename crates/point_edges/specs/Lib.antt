@@ -1,4 +1,4 @@
-pub mod Displacements
+pub mod Callees
 pub mod Jumps
 pub mod Entries
 pub mod Straight

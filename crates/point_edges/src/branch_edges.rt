@@ -3,7 +3,8 @@
 ghost use Rattle.std.specs.Prelude.{◌≡◌, ◌<◌, ◌++◌, length, OnOk};
 ghost use Rattle.flow_defs.specs.Arrival.{insn_of_object};
 ghost use Rattle.flow_defs.specs.Code.{point_at, points_of_object};
-ghost use Rattle.flow_defs.specs.Edges.{branch_edges_by, jump_edges, table_edges};
+ghost use Rattle.flow_defs.specs.Edges.{branch_edges, branch_edges_by, jump_edges, table_edges};
+ghost use Rattle.flow_defs.specs.Roles.{returns_through};
 ghost use Rattle.flow_defs.specs.Targets.{destination_of};
 ghost use Rattle.point_edges.specs.Jumps.{direct_way, edges_along};
 
@@ -62,9 +63,9 @@ fn push_along(
     }
 }
 
-/// Pushes the edges of the direct jump or the call within a function at a point, which goes there. Any other instruction has
-/// none.
-pub(crate) fn push_branch(
+/// Pushes the edges of the direct jump or the call within a function at a point with this operation, which goes there. Any
+/// other instruction has none.
+fn push_by(
     alloc: Global,
     points: &FlowPoints<'_, '_, '_>,
     n: u32,
@@ -81,6 +82,29 @@ pub(crate) fn push_branch(
         Op::Jmp { .. } | Op::Jcc { .. } | Op::Hop => push_along(alloc, points, n, branch, into),
         _ => Ok(()),
     }
+}
+
+/// Pushes the edges of the direct jump or the call within a function at a point with this instruction, which goes there. Any
+/// other instruction has none, and neither has one that returns through code that returns for its caller.
+pub(crate) fn push_branch(
+    alloc: Global,
+    points: &FlowPoints<'_, '_, '_>,
+    n: u32,
+    insn: Insn,
+    branch: Branch,
+    into: &mut Vec<Edge>,
+) -> Result<(), NoMemory>
+    requires point { n < length (points_of_object points.now) }
+    requires insn { insn ≡ insn_of_object points.now (point_at points.now n) }
+    requires to { branch.to ≡ destination_of points.now (point_at points.now n) }
+    requires way { branch.way ≡ direct_way points.now (point_at points.now n) insn.op }
+    requires through { branch.through ≡ returns_through points.now (point_at points.now n) }
+    ensures { OnOk result (into.new.items ≡ into.old.items ++ branch_edges points.now (point_at points.now n)) }
+{
+    if branch.through.is_some() {
+        return Ok(());
+    }
+    push_by(alloc, points, n, insn.op, branch, into)
 }
 
 /// Pushes the edges of an indirect jump through its table, which goes `to` there by its direct jump. A point without a table

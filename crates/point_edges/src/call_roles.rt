@@ -3,11 +3,11 @@
 ghost use Rattle.std.specs.Prelude.{◌≡◌, ◌<◌, length, true};
 ghost use Rattle.alternatives.specs.Points.{is_point};
 ghost use Rattle.flow_defs.specs.Code.{alternatives_of, point_at, points_of_object, texts_of};
-ghost use Rattle.flow_defs.specs.Roles.{call_role as call_role_of, entry_call as entry_call_of, place_call as place_call_of, plain_number as plain_number_of};
+ghost use Rattle.flow_defs.specs.Roles.{call_of_gate as call_of_gate_by, call_role as call_role_of, entry_call as entry_call_of, place_call as place_call_of, plain_number as plain_number_of};
 ghost use Rattle.flow_defs.specs.Targets.{destination_of};
 
 use crate::Branch;
-use crate::called::is_called;
+use crate::called::{gate_called, is_called};
 use alternatives::Point;
 use flow_defs::Destination;
 use machine_defs::Role;
@@ -34,6 +34,16 @@ fn entry_call(entry: u32, weak: Option<u32>) -> Role
     }
 }
 
+/// A call of no entry: one of code outside where it calls a gate by a symbol.
+fn call_of_gate(gate: Option<u32>) -> Role
+    ensures { result ≡ call_of_gate_by gate }
+{
+    match gate {
+        Some(sym) => Role::CallOut { sym },
+        None => Role::Plain,
+    }
+}
+
 /// A call of a place from a point, by a weak symbol or not.
 fn place_call(
     places: &PointPlaces<'_, '_, '_>,
@@ -54,7 +64,7 @@ fn place_call(
     if is_called(places, n, place) {
         entry_call(plain_number(places, place, guess), weak)
     } else {
-        Role::Plain
+        call_of_gate(gate_called(places, n, place))
     }
 }
 

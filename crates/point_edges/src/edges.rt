@@ -4,6 +4,7 @@ ghost use Rattle.std.specs.Prelude.{◌≡◌, ◌<◌, ◌++◌, length, All, O
 ghost use Rattle.flow_defs.specs.Arrival.{insn_of_object};
 ghost use Rattle.flow_defs.specs.Code.{point_at, points_of_object};
 ghost use Rattle.flow_defs.specs.Edges.{goes};
+ghost use Rattle.flow_defs.specs.Roles.{returns_through};
 ghost use Rattle.flow_defs.specs.Targets.{destination_of};
 ghost use Rattle.point_edges.specs.Jumps.{direct_way};
 
@@ -36,6 +37,7 @@ pub fn push_edges(
     requires insn { insn ≡ insn_of_object points.now (point_at points.now n) }
     requires to { branch.to ≡ destination_of points.now (point_at points.now n) }
     requires way { branch.way ≡ direct_way points.now (point_at points.now n) insn.op }
+    requires through { branch.through ≡ returns_through points.now (point_at points.now n) }
     ensures pushed { OnOk result (into.new.items ≡ into.old.items ++ goes points.now (point_at points.now n)) }
 
     // Edges lead to points.
@@ -45,7 +47,7 @@ pub fn push_edges(
         return Ok(());
     }
     push_next(alloc, points, n, insn, into)?;
-    push_branch(alloc, points, n, insn.op, branch, into)?;
+    push_branch(alloc, points, n, insn, branch, into)?;
     let arrivals = points.arrivals();
     push_listed(
         alloc,

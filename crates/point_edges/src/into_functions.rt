@@ -8,7 +8,7 @@ ghost use Rattle.flow_defs.specs.Marks.{calls_into_function as calls_into_a_func
 ghost use Rattle.flow_defs.specs.Targets.{destination_of};
 
 use crate::Branch;
-use crate::called::is_called;
+use crate::called::{gate_called, is_called};
 use crate::flow_points::FlowPoints;
 use alternatives::Point;
 use flow_defs::Destination;
@@ -24,6 +24,7 @@ fn is_inner_place(places: &PointPlaces<'_, '_, '_>, n: u32, place: Place, guess:
     places.is_boundary_by_guess(place, guess)
         && places.unchecked_start(place).is_none()
         && !is_called(places, n, place)
+        && gate_called(places, n, place).is_none()
 }
 
 /// Whether a call of a point of the caller's own replacement goes into a function: of its padding it always does.

@@ -5,6 +5,7 @@ ghost use Rattle.flow_defs.specs.Arrival.{insn_of_object, is_at_end as is_at_an_
 ghost use Rattle.flow_defs.specs.Code.{point_at, points_of_object};
 ghost use Rattle.flow_defs.specs.Edges.{goes_on as goes_on_of};
 ghost use Rattle.flow_defs.specs.Marks.{has_relocated_offset as has_relocated_offset_at, marks_of};
+ghost use Rattle.flow_defs.specs.Roles.{returns_through};
 ghost use Rattle.flow_defs.specs.Targets.{destination_of};
 ghost use Rattle.point_edges.specs.Jumps.{direct_way};
 
@@ -65,6 +66,7 @@ pub fn marks(
     requires insn { insn ≡ insn_of_object points.now (point_at points.now n) }
     requires to { branch.to ≡ destination_of points.now (point_at points.now n) }
     requires way { branch.way ≡ direct_way points.now (point_at points.now n) insn.op }
+    requires through { branch.through ≡ returns_through points.now (point_at points.now n) }
     ensures { result ≡ marks_of points.now (point_at points.now n) comes_back }
 {
     Marks {

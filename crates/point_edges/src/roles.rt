@@ -3,7 +3,7 @@
 ghost use Rattle.std.specs.Prelude.{◌≡◌, ℕ, ◌<◌, length};
 ghost use Rattle.flow_defs.specs.Arrival.{insn_of_object};
 ghost use Rattle.flow_defs.specs.Code.{point_at, points_of_object};
-ghost use Rattle.flow_defs.specs.Roles.{role_by as role_by_op, role_of};
+ghost use Rattle.flow_defs.specs.Roles.{returns_through, role_by as role_by_op, role_of};
 ghost use Rattle.flow_defs.specs.Targets.{destination_of};
 ghost use Rattle.point_edges.specs.Jumps.{direct_way};
 
@@ -39,11 +39,15 @@ pub fn role(points: &FlowPoints<'_, '_, '_>, n: u32, insn: Insn, branch: Branch)
     requires insn { insn ≡ insn_of_object points.now (point_at points.now n) }
     requires to { branch.to ≡ destination_of points.now (point_at points.now n) }
     requires way { branch.way ≡ direct_way points.now (point_at points.now n) insn.op }
+    requires through { branch.through ≡ returns_through points.now (point_at points.now n) }
     ensures value { result ≡ role_of points.now (point_at points.now n) }
 
     // The entries that calls go to are points.
     ensures known { (entry : ℕ) → result ≡ Role.CallIn entry → entry < length (points_of_object points.now) }
     ensures known_by_weak { (entry sym : ℕ) → result ≡ Role.CallEither entry sym → entry < length (points_of_object points.now) }
 {
+    if let Some(sym) = branch.through {
+        return Role::JumpOut { sym };
+    }
     role_by(points, n, insn.op, branch)
 }

@@ -5,8 +5,8 @@ ghost use Rattle.std.specs.List.{list_any};
 ghost use Rattle.flow_defs.specs.Arrival.{insn_of_object};
 ghost use Rattle.flow_defs.specs.Code.{point_at, points_of_object};
 ghost use Rattle.flow_defs.specs.Edges.{fixups as fixups_of, static_targets as static_targets_of};
-ghost use Rattle.flow_defs.specs.Marks.{has_bad_target as has_a_bad_target, has_target_in_site as has_a_target_in_site, is_bad_listed as is_bad_among, listed_places};
-ghost use Rattle.flow_defs.specs.Roles.{table_of_point};
+ghost use Rattle.flow_defs.specs.Marks.{branch_places, is_bad_branch as is_bad_branch_of, has_bad_target as has_a_bad_target, has_target_in_site as has_a_target_in_site, is_bad_listed as is_bad_among, listed_places};
+ghost use Rattle.flow_defs.specs.Roles.{returns_through, table_of_point};
 ghost use Rattle.flow_defs.specs.Sites.{is_into_site as comes_into_site};
 ghost use Rattle.flow_defs.specs.Targets.{destination_of};
 ghost use Rattle.point_edges.specs.Jumps.{direct_way};
@@ -30,6 +30,42 @@ fn has_bad_entry(points: &FlowPoints<'_, '_, '_>, n: u32) -> bool
         || is_bad_listed(places, EdgeKind::Fixup, n, arrivals.fixups(n))
 }
 
+/// Whether the direct call or jump of a point with this instruction goes to a place that is none to go to, unless it returns
+/// through code that returns for its caller.
+fn is_bad_unless_through(
+    points: &FlowPoints<'_, '_, '_>,
+    n: u32,
+    insn: Insn,
+    branch: Branch,
+) -> bool
+    requires point { n < length (points_of_object points.now) }
+    requires insn { insn ≡ insn_of_object points.now (point_at points.now n) }
+    requires to { branch.to ≡ destination_of points.now (point_at points.now n) }
+    requires way { branch.way ≡ direct_way points.now (point_at points.now n) insn.op }
+    requires through { branch.through ≡ returns_through points.now (point_at points.now n) }
+    ensures { result ≡ is_bad_branch_of points.now (point_at points.now n) }
+{
+    branch.through.is_none() && is_bad_branch(points, n, insn.op, branch)
+}
+
+/// Whether the direct call or jump of a point with this instruction comes into a site, unless it returns through code that
+/// returns for its caller.
+fn enters_unless_through(
+    points: &FlowPoints<'_, '_, '_>,
+    n: u32,
+    insn: Insn,
+    branch: Branch,
+) -> bool
+    requires point { n < length (points_of_object points.now) }
+    requires insn { insn ≡ insn_of_object points.now (point_at points.now n) }
+    requires to { branch.to ≡ destination_of points.now (point_at points.now n) }
+    requires way { branch.way ≡ direct_way points.now (point_at points.now n) insn.op }
+    requires through { branch.through ≡ returns_through points.now (point_at points.now n) }
+    ensures { result ≡ list_any (comes_into_site points.now (point_at points.now n)) (branch_places points.now (point_at points.now n)) }
+{
+    branch.through.is_none() && branch_enters(points, n, insn.op, branch)
+}
+
 /// Whether a target of a point with this instruction, whose direct call or branch goes there, is no place to go.
 pub(crate) fn has_bad_target(
     points: &FlowPoints<'_, '_, '_>,
@@ -41,9 +77,10 @@ pub(crate) fn has_bad_target(
     requires insn { insn ≡ insn_of_object points.now (point_at points.now n) }
     requires to { branch.to ≡ destination_of points.now (point_at points.now n) }
     requires way { branch.way ≡ direct_way points.now (point_at points.now n) insn.op }
+    requires through { branch.through ≡ returns_through points.now (point_at points.now n) }
     ensures { result ≡ has_a_bad_target points.now (point_at points.now n) }
 {
-    is_bad_branch(points, n, insn.op, branch) || has_bad_entry(points, n)
+    is_bad_unless_through(points, n, insn, branch) || has_bad_entry(points, n)
 }
 
 /// Whether a static branch or an exception entry at a point leads into a site.
@@ -80,7 +117,8 @@ pub(crate) fn has_target_in_site(
     requires insn { insn ≡ insn_of_object points.now (point_at points.now n) }
     requires to { branch.to ≡ destination_of points.now (point_at points.now n) }
     requires way { branch.way ≡ direct_way points.now (point_at points.now n) insn.op }
+    requires through { branch.through ≡ returns_through points.now (point_at points.now n) }
     ensures { result ≡ has_a_target_in_site points.now (point_at points.now n) }
 {
-    branch_enters(points, n, insn.op, branch) || leads_into_site(points, n, insn, branch.to)
+    enters_unless_through(points, n, insn, branch) || leads_into_site(points, n, insn, branch.to)
 }

@@ -5,7 +5,7 @@ use Rattle.flow_defs.specs.Coded.{Coded}
 use Rattle.flow_defs.specs.Tables.{same_owner}
 use Rattle.flow_defs.specs.Code.{point_at}
 use Rattle.flow_defs.specs.Owners.{owner_of_point}
-use Rattle.point_edges.proofs.Aims.{has_number}
+use Rattle.point_arrivals.proofs.Aims.{has_number}
 use Rattle.point_edges.proofs.MarksWithin.{bad_within}
 use Rattle.point_edges.proofs.bad_targets.leaves_owner.Goals as goal
 

@@ -2,7 +2,7 @@ use Rattle.std.proofs.Common.{true, false, sym, ap, ◌∙◌}
 use Rattle.std.specs.Prelude.{is_some}
 use Rattle.std.proofs.lemmas.Bool.{false≢true}
 use Rattle.flow_defs.specs.Code.{point_at}
-use Rattle.point_edges.proofs.Aims.{has_number}
+use Rattle.point_arrivals.proofs.Aims.{has_number}
 use Rattle.point_edges.proofs.MarksWithin.{inner_within}
 use Rattle.point_edges.proofs.into_functions.is_inner_point.Goals as goal
 

@@ -13,4 +13,4 @@ returns c =
     let is : IsObject o.elf.bytes o.elf = subst (λ (e : Elf). IsObject e.bytes e) c.object.ensures own in
     let low : All (λ byte. byte < 256) o.elf.bytes = subst (All (λ (byte : ℕ). byte < 256)) bytes c.bytes_are_low.ensures in
     let linked = c.texts.ensures.linked in
-    record { object = is; bytes = has_bytes o is low; special = linked.before.before.special; sites = linked.sites }
+    record { object = is; bytes = has_bytes o is low; under = linked.0; special = linked.1.before.before.special; sites = linked.1.sites }

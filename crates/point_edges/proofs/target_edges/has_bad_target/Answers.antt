@@ -4,12 +4,12 @@ use Rattle.flow_defs.specs.Code.{point_at}
 use Rattle.point_edges.proofs.Parts.{bad_parts, or_first, or_second}
 use Rattle.point_edges.proofs.target_edges.has_bad_target.Goals as goal
 
-pub returns-then-is_bad_branch : goal.returns-then-is_bad_branch
-returns-then-is_bad_branch c =
+pub returns-then-is_bad_unless_through : goal.returns-then-is_bad_unless_through
+returns-then-is_bad_unless_through c =
     let o : Coded = c.args.points.now in
-    or_first _ _ _ c.if-is_bad_branch.true c.is_bad_branch.ensures ∙ bad_parts o (point_at o c.args.n) c.args.insn c.requires.insn
+    or_first _ _ _ c.if-is_bad_unless_through.true c.is_bad_unless_through.ensures ∙ bad_parts o (point_at o c.args.n)
 
-pub returns-else-is_bad_branch : goal.returns-else-is_bad_branch
-returns-else-is_bad_branch c =
+pub returns-else-is_bad_unless_through : goal.returns-else-is_bad_unless_through
+returns-else-is_bad_unless_through c =
     let o : Coded = c.args.points.now in
-    or_second _ _ _ _ c.if-is_bad_branch.false c.is_bad_branch.ensures c.has_bad_entry.ensures ∙ bad_parts o (point_at o c.args.n) c.args.insn c.requires.insn
+    or_second _ _ _ _ c.if-is_bad_unless_through.false c.is_bad_unless_through.ensures c.has_bad_entry.ensures ∙ bad_parts o (point_at o c.args.n)

@@ -4,12 +4,12 @@ use Rattle.flow_defs.specs.Code.{point_at}
 use Rattle.point_edges.proofs.Parts.{parts_in_site, or_first, or_second}
 use Rattle.point_edges.proofs.target_edges.has_target_in_site.Goals as goal
 
-pub returns-then-branch_enters : goal.returns-then-branch_enters
-returns-then-branch_enters c =
+pub returns-then-enters_unless_through : goal.returns-then-enters_unless_through
+returns-then-enters_unless_through c =
     let o : Coded = c.args.points.now in
-    or_first _ _ _ c.if-branch_enters.true c.branch_enters.ensures ∙ parts_in_site o (point_at o c.args.n) c.args.insn c.requires.insn
+    or_first _ _ _ c.if-enters_unless_through.true c.enters_unless_through.ensures ∙ parts_in_site o (point_at o c.args.n)
 
-pub returns-else-branch_enters : goal.returns-else-branch_enters
-returns-else-branch_enters c =
+pub returns-else-enters_unless_through : goal.returns-else-enters_unless_through
+returns-else-enters_unless_through c =
     let o : Coded = c.args.points.now in
-    or_second _ _ _ _ c.if-branch_enters.false c.branch_enters.ensures c.leads_into_site.ensures ∙ parts_in_site o (point_at o c.args.n) c.args.insn c.requires.insn
+    or_second _ _ _ _ c.if-enters_unless_through.false c.enters_unless_through.ensures c.leads_into_site.ensures ∙ parts_in_site o (point_at o c.args.n)
