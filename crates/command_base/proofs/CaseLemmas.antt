@@ -1,7 +1,7 @@
 -- What is found of warnings is what their backtraces tell.
 use Rattle.std.specs.Option.{option_or}
 use Rattle.std.proofs.Common.{◌≡◌, ℕ, ◌<◌, ◌≤◌, suc, Bool, true, false, ◌&&◌, List, [], ◌∷◌, ◌++◌, length, map, get_or, Option, Some, None, inl, inr, arith, refl, sym, ap, ◌∙◌, subst, append_assoc}
-use Rattle.std.specs.Prelude.{All, Contains, IfSome, MatchOption, is_some, option_and_then, ◌↔◌}
+use Rattle.std.specs.Prelude.{All, Contains, IfSome, MatchOption, Result, is_some, option_and_then, ◌↔◌}
 use Rattle.std.specs.List.{flat_map}
 use Rattle.std.proofs.lemmas.Bool.{cases_lt}
 use Rattle.std.proofs.lemmas.List.Elements.{All-append, All-cons, All-filter, All-head, All-nil, All-push, All-tail}
@@ -12,11 +12,10 @@ use Rattle.elf_objects.specs.Elf.{Elf}
 use Rattle.elf_objects.specs.Below.{least_below}
 use Rattle.elf_objects.proofs.LeastBelow.{least_below-some}
 use Rattle.state_defs.specs.declared.state.State.{State}
-use Rattle.operation_defs.specs.declared.op.Op.{Op}
 use Rattle.machine_defs.specs.declared.flow.EdgeKind.{EdgeKind}
 use Rattle.machine_defs.specs.declared.flow.EdgeKind.TheVariants.{Next, Taken, Fixup, Table, Sibling}
 use Rattle.machine_defs.specs.Program.{Program, IsPoint}
-use Rattle.machine_defs.specs.Kept.{AreKeptStates, Kept, NotKept, brought_along, state_at}
+use Rattle.machine_defs.specs.Kept.{AreKeptStates, Kept, NotKept, brought_along, moved_at, state_at}
 use Rattle.kept_states.specs.LevelStates.{at}
 use Rattle.state_ways.specs.declared.clashes.Clash.{Clash}
 use Rattle.state_ways.specs.declared.steps.WayKind.{WayKind}
@@ -39,12 +38,12 @@ some_of (Some s) h = (s, refl)
 some_of None h = cc
 
 -- a state comes along an edge so
-kind_along : (k : EdgeKind) (s t : State) (op : Op) → Contains (brought_along s op k) t → (kind : WayKind) × (along k ≡ Some kind)
-kind_along Next s t op h = (kinds.Next, refl)
-kind_along Taken s t op h = (kinds.Taken, refl)
-kind_along Fixup s t op h = (kinds.Fixup, refl)
-kind_along Table s t op h = (kinds.Table, refl)
-kind_along Sibling s t op h = absurd (omega (arith, h.1))
+kind_along : (k : EdgeKind) (s t : State) (after : Result State ℕ) → Contains (brought_along s after k) t → (kind : WayKind) × (along k ≡ Some kind)
+kind_along Next s t after h = (kinds.Next, refl)
+kind_along Taken s t after h = (kinds.Taken, refl)
+kind_along Fixup s t after h = (kinds.Fixup, refl)
+kind_along Table s t after h = (kinds.Table, refl)
+kind_along Sibling s t after h = absurd (omega (arith, h.1))
 
 module _ (p : Program) (kept : List (Option State)) (ways : List (List WayStep)) (same : length kept ≡ p.count) (paths : length ways ≡ p.count) (are_kept : AreKeptStates p (at kept)) (are_ways : AreWays p ways) where
   -- a point that keeps a state is one
@@ -100,7 +99,7 @@ module _ (p : Program) (kept : List (Option State)) (ways : List (List WayStep))
 
   other_told : (w : Warning) (o : Option Clash) → IsCaseClash p w o → IsOtherWay p w (turns_along ways o)
   other_told w o (found clash is) =
-      let kind = kind_along clash.edge.kind is.before is.brought (p.insn clash.from).op is.along in
+      let kind = kind_along clash.edge.kind is.before is.brought (moved_at p clash.from is.before) is.along in
       subst (λ (k : Option WayKind). IsOtherWay p w (turns_at ways clash.from ++ step_along clash.edge.to k)) (sym kind.1)
       (mismatch clash kind.0 (turns_at ways clash.from) is kind.1 (turns_to_point clash.from is.before is.from))
   other_told w o (none rule) = alone rule

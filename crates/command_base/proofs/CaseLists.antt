@@ -14,7 +14,7 @@ use Rattle.state_defs.specs.declared.state.State.{State}
 use Rattle.machine_defs.specs.Program.{Program}
 use Rattle.machine_defs.specs.Broken.{Warns}
 use Rattle.machine_defs.specs.Broken as broken
-use Rattle.table_law.proofs.Refusals.{refusal}
+use Rattle.table_law.proofs.Refusals.{refusal_at}
 use Rattle.kept_states.specs.LevelStates.{at}
 use Rattle.program_graph.specs.declared.parts.GraphParts.{GraphParts}
 use Rattle.command_base.specs.declared.backtrace_cases.Case.{Case}
@@ -61,7 +61,7 @@ same_warnings warnings firsts clashes cases w s c len made =
 -- where rule 4 warns, a clash is noted
 noted_where : (p : Program) (warnings : List Warning) (clashes : List (Option Clash)) → AreClashes p warnings clashes → (place : Place) (rule : ℕ) (a b : ℤ) → Warns p place rule a b → rule ≡ STATE_MISMATCH → IsNoted warnings clashes (numbered_warning place rule a b)
 noted_where p warnings clashes are place rule a b (broken.mismatch q r s t u from brings to free other) e = are.all q r s t u from brings to free other
-noted_where p warnings clashes are place rule a b (broken.refused q n s k why before) e = let h : 7 ≤ 4 = subst (λ (x : ℕ). 7 ≤ x) e (refusal s (p.insn q).op n why) in absurd (omega arith)
+noted_where p warnings clashes are place rule a b (broken.refused q n s k why before) e = let h : 7 ≤ 4 = subst (λ (x : ℕ). 7 ≤ x) e (refusal_at p q s n why) in absurd (omega arith)
 noted_where p warnings clashes are place rule a b _ e = absurd (omega arith)
 
 same_parts : (w : Warning) → w ≡ numbered_warning w.place w.rule w.a w.b
