@@ -12,9 +12,10 @@ use Rattle.alternatives.specs.declared.point.Point.{Point}
 use Rattle.alternatives.specs.Points.{point_after}
 use Rattle.machine_defs.specs.Program.{below}
 use Rattle.operation_defs.specs.Made.{Around, made}
-use Rattle.flow_defs.specs.Arrival.{around, decoded_insn, insn_of_object}
+use Rattle.flow_defs.specs.Arrival.{decoded_insn}
 use Rattle.flow_defs.specs.Code.{no_point, point_at, points_of_object}
 use Rattle.flow_defs.specs.Coded.{Coded}
+use Rattle.flow_defs.specs.Switching.{around_by, insn_by}
 use Rattle.flow_defs.specs.Program.{graph_of, program_of, returning_graph}
 use Rattle.unwinding_law.proofs.Lists.{from_below, in_below}
 use Rattle.entry_rules.specs.EntryWarns.{is_before_int3, is_int3}
@@ -25,10 +26,11 @@ either_way true one other no_one no_other = no_one
 either_way false one other no_one no_other = no_other
 
 int3_stays : (a : Around) (op : Op) → is_int3 (made a op) ≡ is_int3 op
-int3_stays a (ops.Call rel) = either_way a.intra_call ops.Hop (ops.Call rel) refl refl
+int3_stays a (ops.Call rel) = either_way a.returning (ops.Jmp rel true) (cond a.intra_call ops.Hop (ops.Call rel)) refl (either_way a.intra_call ops.Hop (ops.Call rel) refl refl)
 int3_stays a (ops.LeaBpSp by) = either_way a.makes_room (ops.LeaBpRoom by) (ops.LeaBpSp by) refl refl
 int3_stays a ops.Iret = either_way a.within ops.IretNext ops.Iret refl refl
 int3_stays a ops.Switch = either_way (a.within && a.hinted) ops.SpOther ops.Switch refl refl
+int3_stays a ops.SpOther = either_way a.loads_stack ops.BpOther ops.SpOther refl refl
 int3_stays a _ = refl
 
 module _ (o : Coded) (lists : NameLists) (n : ℕ) where
@@ -40,10 +42,10 @@ module _ (o : Coded) (lists : NameLists) (n : ℕ) where
   test : ℕ → Bool
   test r =
       ((point_at o r).variant == (point_at o n).variant && ((point_at o r).place.sec == (point_at o n).place.sec && (point_at o r).place.off == (point_at o n).place.off + (decoded_insn o (point_at o n)).len))
-      && is_int3 (made (around o (point_at o r)) (decoded_insn o (point_at o r)).op)
+      && is_int3 (made (around_by o lists (point_at o r)) (decoded_insn o (point_at o r)).op)
 
   tested : list_any test (below (length (points_of_object o))) ≡ is_before_int3 (program_of o lists) n
-  unfolding program_of returning_graph graph_of insn_of_object test
+  unfolding program_of returning_graph graph_of insn_by test
   tested = refl
 
   points_alike : (a b : Point) → a.variant ≡ b.variant → a.place.sec ≡ b.place.sec → a.place.off ≡ b.place.off → a ≡ b
@@ -60,7 +62,7 @@ module _ (o : Coded) (lists : NameLists) (n : ℕ) where
       let behind = and_parts ((point_at o r).variant == (point_at o n).variant) _ both.0 in
       let place = and_parts ((point_at o r).place.sec == (point_at o n).place.sec) _ behind.1 in (
         points_alike (point_at o r) next (eqb-true _ _ behind.0) (eqb-true _ _ place.0) (eqb-true _ _ place.1),
-        sym (int3_stays (around o (point_at o r)) (decoded_insn o (point_at o r)).op) ∙ both.1,
+        sym (int3_stays (around_by o lists (point_at o r)) (decoded_insn o (point_at o r)).op) ∙ both.1,
       )
 
   passes : (r : ℕ) → point_at o r ≡ next → is_int3 (decoded_insn o (point_at o r)).op ≡ true → test r ≡ true
@@ -69,7 +71,7 @@ module _ (o : Coded) (lists : NameLists) (n : ℕ) where
       and_from _ _
       (and_from ((point_at o r).variant == (point_at o n).variant) _ (eq-eqb _ _ (ap (λ (x : Point). x.variant) is))
       (and_from ((point_at o r).place.sec == (point_at o n).place.sec) _ (eq-eqb _ _ (ap (λ (x : Point). x.place.sec) is)) (eq-eqb _ _ (ap (λ (x : Point). x.place.off) is))))
-      (int3_stays (around o (point_at o r)) (decoded_insn o (point_at o r)).op ∙ int3)
+      (int3_stays (around_by o lists (point_at o r)) (decoded_insn o (point_at o r)).op ∙ int3)
 
   all_fail : ((r : ℕ) → r < length (points_of_object o) → test r ≡ true → ⊥) → list_any test (below (length (points_of_object o))) ≡ false
   all_fail none =

@@ -1,6 +1,7 @@
 -- A program that breaks none of the entry rules keeps what they promise.
 use Rattle.std.proofs.Common.{◌≡◌, ℕ, Bool, true, false, inl, inr, refl, sym, ap, ◌∙◌, subst}
-use Rattle.std.specs.Prelude.{Contains, IsTrue}
+use Rattle.std.specs.Prelude.{Contains, IsTrue, not, ◌&&◌, ◌||◌}
+use Rattle.std.proofs.lemmas.Bool.{and_parts, false≢true}
 use Rattle.machine_defs.specs.declared.flow.Role.{Role}
 use Rattle.machine_defs.specs.declared.flow.Role.TheVariants as roles
 use Rattle.machine_defs.specs.declared.flow.Edge.{Edge}
@@ -9,7 +10,8 @@ use Rattle.ot_base.specs.declared.place.Place.{Place}
 use Rattle.machine_defs.specs.IsProgram.{IsCallee, IsProgram}
 use Rattle.machine_defs.specs.Kept.{can_go}
 use Rattle.machine_defs.specs.Machine.{At, Bases, Machine, Standing, Wrecked}
-use Rattle.machine_defs.specs.MayReturn.{may_call_out}
+use Rattle.machine_defs.specs.MayReturn.{calls_outside as may_go_outside, is_listed}
+use Rattle.machine_defs.specs.Ways.{comes_back_as_outside}
 use Rattle.machine_defs.specs.Program.{IsPoint, Program, edge, entry_points}
 use Rattle.machine_defs.specs.Step.{IsTarget, JumpsTo, Step, calls_in, calls_out, faults, goes_on, indirect, interrupted, irets, may_go_back, returns, sibling, tail_calls, wrecks}
 use Rattle.unwinding_law.proofs.Lists.{in_filter}
@@ -48,7 +50,9 @@ module _ (p : Program) (facts : EntryFacts) (options : EntryOptions) (is : IsPro
     arrives_inside entry r (inl listed) arrives there =
         let same : p.address r ≡ p.address entry = at_places.arrivals (p.place entry) r arrives ∙ sym (at_places.stands entry listed) in
         ap (λ (place : Place). facts.noinstr place.sec) same ∙ there
-    arrives_inside entry r (inr may) arrives there = ap (is_noinstr p facts) (is.arrives_alone entry r may.point may.plain may.outside arrives) ∙ there
+    arrives_inside entry r (inr may) arrives there =
+        let same : p.address r ≡ p.address entry = at_places.arrivals (p.place entry) r arrives ∙ sym (at_places.plain entry may.point may.plain) in
+        ap (λ (place : Place). facts.noinstr place.sec) same ∙ there
 
     callee_of : (role : Role) (entry : ℕ) → p.role q ≡ role → IsTarget p role entry → IsCallee p q entry
     callee_of (roles.CallIn e) entry role may = subst (IsCallee p q) (sym may) (is.calls_entry q e point role)
@@ -61,16 +65,17 @@ module _ (p : Program) (facts : EntryFacts) (options : EntryOptions) (is : IsPro
     callee_of roles.JumpAny entry role may = absurd may
     callee_of roles.Switch entry role may = absurd may
 
-    no_call_out : (role : Role) → p.role q ≡ role → IsTrue (may_call_out p role) → ⊥
-    no_call_out (roles.CallOut s) role may = leaves_not _ (calls_outside s role)
-    no_call_out (roles.CallEither e s) role may = leaves_not _ (calls_weak_outside e s role)
-    no_call_out roles.CallAny role may = leaves_not _ (calls_anywhere role)
-    no_call_out roles.Plain role may = let k : ⊥ = cc in k
-    no_call_out (roles.CallIn e) role may = let k : ⊥ = cc in k
-    no_call_out roles.Return role may = let k : ⊥ = cc in k
-    no_call_out (roles.JumpOut s) role may = let k : ⊥ = cc in k
-    no_call_out roles.JumpAny role may = let k : ⊥ = cc in k
-    no_call_out roles.Switch role may = let k : ⊥ = cc in k
+    -- nothing outside is called; where control comes back as from there, such code was called
+    calls_such : (role : Role) → p.role q ≡ role → (not (is_listed p q) && (may_go_outside role || comes_back_as_outside p q role)) ≡ true → (entry : ℕ) × (p.role q ≡ roles.CallIn entry) × (is_noinstr p facts entry ≡ true)
+    calls_such (roles.CallIn e) role may = (e, role, unless_false _ (λ out. leaves_not _ (calls e role out)))
+    calls_such (roles.CallOut s) role may = absurd (leaves_not _ (calls_outside s role))
+    calls_such (roles.CallEither e s) role may = absurd (leaves_not _ (calls_weak_outside e s role))
+    calls_such roles.CallAny role may = absurd (leaves_not _ (calls_anywhere role))
+    calls_such roles.Plain role may = absurd (let k = (and_parts (not (is_listed p q)) _ may).1 in false≢true k)
+    calls_such roles.Return role may = absurd (let k = (and_parts (not (is_listed p q)) _ may).1 in false≢true k)
+    calls_such (roles.JumpOut s) role may = absurd (let k = (and_parts (not (is_listed p q)) _ may).1 in false≢true k)
+    calls_such roles.JumpAny role may = absurd (let k = (and_parts (not (is_listed p q)) _ may).1 in false≢true k)
+    calls_such roles.Switch role may = absurd (let k = (and_parts (not (is_listed p q)) _ may).1 in false≢true k)
 
     -- it is left by a return alone
     returns_itself : (role : Role) → p.role q ≡ role → IsTrue (may_go_back p role) → p.role q ≡ roles.Return
@@ -97,7 +102,7 @@ module _ (p : Program) (facts : EntryFacts) (options : EntryOptions) (is : IsPro
         moved t u (landed p t u lands).point
         (arrives_inside asked s.point h.point inside how.entry t.point (callee_of asked s.point h.point inside (p.role s.point) how.entry refl how.target) how.arrives
         (called_inside asked s.point h.point inside (p.role s.point) how.entry refl how.target))
-    step_inside asked _ _ (calls_out s t u how lands) h = λ inside. no_call_out asked s.point h.point inside (p.role s.point) refl how.target
+    step_inside asked _ _ (calls_out s t u how lands) h = λ inside. calls_such asked s.point h.point inside (p.role s.point) refl how.target
     step_inside asked _ _ (tail_calls s t u how lands) h = λ inside. moved t u (landed p t u lands).point (jumps_inside asked s.point h.point inside t.point how.target)
     step_inside asked _ _ (returns s t u how lands) h = λ inside. returns_itself asked s.point h.point inside (p.role s.point) refl how.leaves
     step_inside asked _ _ (goes_on s t u how lands) h = tt

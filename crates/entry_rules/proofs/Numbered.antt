@@ -7,7 +7,8 @@ use Rattle.operation_defs.specs.declared.insn.Insn.{Insn}
 use Rattle.alternatives.specs.declared.point.Point.{Point}
 use Rattle.alternatives.specs.Numbers.{IsNumberOf}
 use Rattle.alternatives.specs.Points.{insn_of_point, point_after}
-use Rattle.flow_defs.specs.Arrival.{decoded_insn, no_insn}
+use Rattle.flow_defs.specs.Arrival.{decoded_insn}
+use Rattle.flow_defs.specs.Decoded.{no_insn}
 use Rattle.flow_defs.specs.Code.{alternatives_of, no_point, point_at, points_of_object, texts_of}
 use Rattle.flow_defs.specs.Coded.{Coded}
 

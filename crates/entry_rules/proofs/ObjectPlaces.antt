@@ -1,6 +1,7 @@
 -- What comes to a place of an object runs there.
 use Rattle.std.proofs.Common.{◌≡◌, ℕ, ◌-◌, true, cond, Contains, sym, ap, subst}
 use Rattle.std.specs.Prelude.{filter}
+use Rattle.std.proofs.lemmas.Bool.{eq-eqb}
 use Rattle.ot_base.specs.NameLists.{NameLists}
 use Rattle.alternatives.specs.declared.point.Point.{Point}
 use Rattle.alternatives.specs.Points.{address_of_point, entry_of}
@@ -33,4 +34,5 @@ arrives_at_places o lists = record {
   arrivals = λ place q comes. arrives_at o place q comes;
   entries = λ entry c. (has_functions o lists).points entry c;
   stands = λ entry c. runs_at o (point_at o entry) (plain_entry o entry c);
+  plain = λ q point v. runs_at o (point_at o q) (eq-eqb (point_at o q).variant 0 v);
 }

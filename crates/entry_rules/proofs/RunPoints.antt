@@ -44,12 +44,12 @@ module _ (p : Program) (bases : Bases) (is : IsProgram p) where
   starts_there : (s : Standing) → Start p bases s → StandsAtPoint p s
   starts_there s (at_entry t _ f entry listed arrives called at from) =
       from_start t s from (is.arrivals (p.place entry) t.point arrives) (one_frame t.core.shadow called.ra called.cfa called.bp _ t.core called.shadow)
-  starts_there s (at_call_hint t _ depth fp bp may hint called from) =
-      from_start t s from may.point (one_frame t.core.shadow called.ra called.cfa called.bp _ t.core called.shadow)
-  starts_there s (at_regs_hint t _ full depth may hint came from) =
-      from_start t s from may.point (one_frame t.core.shadow came.ra came.cfa came.bp came.slot t.core came.shadow)
-  starts_there s (at_end_hint t _ kind may hint none from) =
-      from_start t s from may.point (subst (HaveCalls p) (sym none) tt)
+  starts_there s (at_call_hint t _ depth fp bp may called from) =
+      from_start t s from (is.arrivals (p.place may.plain_point) t.point may.arrives) (one_frame t.core.shadow called.ra called.cfa called.bp _ t.core called.shadow)
+  starts_there s (at_regs_hint t _ full depth may came from) =
+      from_start t s from (is.arrivals (p.place may.plain_point) t.point may.arrives) (one_frame t.core.shadow came.ra came.cfa came.bp came.slot t.core came.shadow)
+  starts_there s (at_end_hint t _ kind may none from) =
+      from_start t s from (is.arrivals (p.place may.plain_point) t.point may.arrives) (subst (HaveCalls p) (sym none) tt)
 
   same_calls : (c d : List Frame) → d ≡ c → HaveCalls p c → HaveCalls p d
   same_calls c d e h = subst (HaveCalls p) (sym e) h
@@ -85,7 +85,7 @@ module _ (p : Program) (bases : Bases) (is : IsProgram p) where
       (same_calls s.core.shadow t.core.shadow (ap (λ (c : Core). c.shadow) how.core) h.calls)
   step_there _ _ (wrecks s how) h = tt
   step_there _ _ (interrupted s t u how lands) h =
-      landed_there t u (landed p t u lands) how.gate.point
+      landed_there t u (landed p t u lands) (is.arrivals (p.place how.entered) t.point how.arrives)
       (same_calls (interrupt_frame p bases s ∷ s.core.shadow) t.core.shadow (ap (λ (c : Core). c.shadow) how.core) (λ q e. subst (IsPoint p) (let k : s.point ≡ q = cc in k) h.point, h.calls))
   step_there _ _ (irets s t how) h =
       let frames : HaveCalls p (how.frame ∷ how.below) = subst (HaveCalls p) how.shadow h.calls in

@@ -1,7 +1,7 @@
 -- What the entry rules promise of every run of the stack machine on a program that breaks none of them.
 use Rattle.std.specs.Prelude.{◌≡◌, ℕ, ◌⊎◌, true, Contains}
 use Rattle.ot_base.specs.declared.place.Place.{Place}
-use Rattle.machine_defs.specs.declared.flow.Role.TheVariants.{CallAny, JumpAny, Return}
+use Rattle.machine_defs.specs.declared.flow.Role.TheVariants.{CallAny, CallIn, JumpAny, Return}
 use Rattle.machine_defs.specs.IsProgram.{IsProgram}
 use Rattle.machine_defs.specs.Machine.{At, Bases, Machine, Standing, Wrecked}
 use Rattle.machine_defs.specs.Program.{IsPoint, Program, entry_points}
@@ -15,11 +15,16 @@ use Rattle.entry_rules.specs.Facts.{EntryFacts}
 abbrev pub StaysThere : Program → EntryFacts → Standing → Standing → Type 0
 StaysThere p facts s u = is_noinstr p facts s.point ≡ true → is_noinstr p facts u.point ≡ true
 
+-- what a point calls inside the program isn't instrumented
+abbrev pub CallsSuch : Program → EntryFacts → Standing → Type 0
+CallsSuch p facts s = (entry : ℕ) × (p.role s.point ≡ CallIn entry) × (is_noinstr p facts entry ≡ true)
+
 -- The promise of `noinstr` for a step: a call and a tail call inside the program lead from such code to such code; there is no call
--- of code outside from there; and it is left by a return of its own alone, and not by a jump to code outside that returns.
+-- of code outside from there, and where control comes back as from one, such code was called; and it is left by a return of its own
+-- alone, and not by a jump to code outside that returns.
 abbrev pub StepsInside : {p : Program} {bases : Bases} {m n : Machine} → EntryFacts → Step p bases m n → Type 0
 StepsInside {p = p} facts (calls_in s t u how lands) = StaysThere p facts s u
-StepsInside {p = p} facts (calls_out s t u how lands) = is_noinstr p facts s.point ≡ true → ⊥
+StepsInside {p = p} facts (calls_out s t u how lands) = is_noinstr p facts s.point ≡ true → CallsSuch p facts s
 StepsInside {p = p} facts (tail_calls s t u how lands) = StaysThere p facts s u
 StepsInside {p = p} facts (returns s t u how lands) = is_noinstr p facts s.point ≡ true → p.role s.point ≡ Return
 StepsInside facts _ = Unit {0}
@@ -46,12 +51,13 @@ pub record KeepsRules (p : Program) (facts : EntryFacts) (options : EntryOptions
   pub sls : options.sls ≡ true → (bases : Bases) (m : Machine) → Run p bases m → IsBeforeInt3 p m
   pub ibt : options.ibt ≡ true → (bases : Bases) (m n : Machine) → Run p bases m → (step : Step p bases m n) → StepsToEndbr facts step
 
--- Where control may stand that comes to a place runs at that place, and so do entries. This holds of every program that is read from
--- an object.
+-- Where control may stand that comes to a place runs at that place, and so do entries and plain points. This holds of every program
+-- that is read from an object.
 pub record ArrivesAtPlaces (p : Program) : Type 0 where
   pub arrivals : (place : Place) (q : ℕ) → Contains (p.arrive place) q → p.address q ≡ place
   pub entries : (entry : ℕ) → Contains p.entries entry → IsPoint p entry
   pub stands : (entry : ℕ) → Contains p.entries entry → p.address entry ≡ p.place entry
+  pub plain : (q : ℕ) → IsPoint p q → p.variant q ≡ 0 → p.address q ≡ p.place q
 
 -- a program that breaks none of the rules keeps what they promise
 abbrev pub EntryLaw : Type 0

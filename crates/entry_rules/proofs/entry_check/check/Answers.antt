@@ -14,7 +14,7 @@ pub returns-clause-warnings : goal.returns-clause-warnings
 returns-clause-warnings c lists tells =
     let o : Coded = c.args.linked.now in
     let p : Program = program_of o lists in
-    let is : IsProgram p = c.program_is_one.ensures o lists c.object_is_in_order.ensures.bytes c.object_is_in_order.ensures.special in
+    let is : IsProgram p = c.program_is_one.ensures o lists c.object_is_in_order.ensures in
     let sorted : List Warning = c.sort_warnings.new.warnings.items in
     record {
       ascend = c.sort_warnings.ensures.ascending;
@@ -27,7 +27,7 @@ pub returns-clause-promises : goal.returns-clause-promises
 returns-clause-promises c empty lists tells =
     let o : Coded = c.args.linked.now in
     let p : Program = program_of o lists in
-    let is : IsProgram p = c.program_is_one.ensures o lists c.object_is_in_order.ensures.bytes c.object_is_in_order.ensures.special in
+    let is : IsProgram p = c.program_is_one.ensures o lists c.object_is_in_order.ensures in
     let sorted : List Warning = c.sort_warnings.new.warnings.items in
     c.rules_are_kept.ensures p (facts_of o) c.args.options is (arrives_at_places o lists)
     (none_is_clean p (facts_of o) c.args.options sorted empty (returns-clause-warnings c lists tells).all)

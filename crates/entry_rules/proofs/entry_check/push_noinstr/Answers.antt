@@ -23,7 +23,7 @@ returns c = on_ok_weaker c.push_leaving.result (λ h lists tells.
     subst (TellsNoinstr facts) (sym c.deref.ensures.value) (λ sec. sym (c.in_ok-flags.ensures sec ∙ ap (λ (e : Elf). is_noinstr_section (section_at e sec)) c.object.ensures)) in
     let knows : Knows p facts c.args.graph.now.parts flags = record {
       tells = tells;
-      is_program = c.program_is_one.ensures o lists c.object_is_in_order.ensures.bytes c.object_is_in_order.ensures.special;
+      is_program = c.program_is_one.ensures o lists c.object_is_in_order.ensures;
       functions = c.program_has_functions.ensures o lists;
       noinstr = told;
     } in

@@ -1,7 +1,7 @@
-use Rattle.std.proofs.Common.{List, sym, ap, ◌∙◌, subst}
+use Rattle.std.proofs.Common.{List, sym, ◌∙◌, subst}
 use Rattle.std.proofs.lemmas.Result.{IfOk-weaker}
 use Rattle.ot_base.specs.declared.place.Place.{Place}
-use Rattle.object_points.specs.Places.{HaveSamePlaces, is_among}
+use Rattle.object_points.specs.Places.{HaveSamePlaces}
 use Rattle.taken_places.specs.Taken.{taken_places}
 use Rattle.entry_rules.proofs.entry_check.taken_set.Goals as goal
 
