@@ -24,7 +24,7 @@ use Rattle.return_search.specs.declared.searched_flow.Flow.{Flow}
 use Rattle.return_search.specs.Shape.{HasShape}
 use Rattle.return_search.specs.Told.{SharesEdges, TellsFlow, callee_at, edges_from, exit_of, exit_at}
 use Rattle.control_flow.specs.Listed.{AreDeadEnds, AreEdges, AreEntered, AreExits, CallsPoint, ExitCallsPoint, IsPointIfAny, count_of}
-use Rattle.control_flow.proofs.Callees.{entry_named, lone_named}
+use Rattle.control_flow.proofs.Callees.{entry_named, open_named}
 use Rattle.control_flow.proofs.Steps.{all_at}
 
 by_name : (b : Bool) (x y : Exit) (entry : ℕ) → (x ≡ exits.Calls entry → ⊥) → (y ≡ exits.Calls entry → ⊥) → cond b x y ≡ exits.Calls entry → ⊥
@@ -83,7 +83,7 @@ module _ (o : Coded) (lists : NameLists) (flow : Flow) (alike : List ℕ)
   unfolding program_of returning_graph graph_of
   callees_are call entry q at calls here = elim (program.calls_entry call entry at calls) [
     | inl listed ↦ entry_named o flow.entered.items entered entry q here listed
-    | inr may ↦ lone_named o flow.entered.items entered entry q here may.point may.plain may.of_none (λ r c. program.arrives_alone entry r may.point may.plain may.outside c)
+    | inr may ↦ open_named o flow.entered.items entered entry q here may.point may.plain may.of_none
   ]
 
   edges_shared : (q : ℕ) → q < count_of o → Contains alike q → (r : ℕ) × SharesEdges (program_of o lists) flow q r

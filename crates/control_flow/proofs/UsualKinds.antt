@@ -9,9 +9,10 @@ use Rattle.operation_defs.specs.declared.op.Op.{Op}
 use Rattle.alternatives.specs.declared.point.Point.{Point}
 use Rattle.machine_defs.specs.Kept.{is_at_entry}
 use Rattle.flow_defs.specs.Coded.{Coded}
-use Rattle.flow_defs.specs.Arrival.{around, decoded_insn, insn_of_object, is_dead_end}
+use Rattle.flow_defs.specs.Arrival.{decoded_insn, is_dead_end}
 use Rattle.flow_defs.specs.Code.{point_at}
 use Rattle.flow_defs.specs.Program.{program_of}
+use Rattle.flow_defs.specs.Switching.{around_by, insn_by}
 use Rattle.program_graph.specs.declared.parts.PointKind.{PointKind}
 use Rattle.control_flow.specs.Kinds.{AreUsual, StaysDecoded, usual_kind}
 use Rattle.control_flow.specs.Numbers.{IsNumbered}
@@ -71,18 +72,18 @@ usual_more insns kinds stay n insn stays long own is are = record {
     ]
 
 -- an instruction whose operation stays is the same in the program
-pub same_in_program : (o : Coded) (p : Point) → StaysDecoded (decoded_insn o p).op → insn_of_object o p ≡ decoded_insn o p
-unfolding insn_of_object
-same_in_program o p stays = ap (λ (op : Op). let it : Insn = record { len = (decoded_insn o p).len; op = op } in it) (stays (around o p))
+pub same_in_program : (o : Coded) (lists : NameLists) (p : Point) → StaysDecoded (decoded_insn o p).op → insn_by o lists p ≡ decoded_insn o p
+unfolding insn_by
+same_in_program o lists p stays = ap (λ (op : Op). let it : Insn = record { len = (decoded_insn o p).len; op = op } in it) (stays (around_by o lists p))
 
 -- the usual kind is that of a point of which nothing else is told
-pub usual_is : (o : Coded) (q : ℕ) (may_return is_entered : Bool) (transfer : ℕ) → StaysDecoded (decoded_insn o (point_at o q)).op → is_dead_end o (point_at o q) ≡ false → (may_return ≡ true) × (is_entered ≡ false) × (transfer ≡ 0) → ((lists : NameLists) → is_at_entry (program_of o lists) q ≡ is_entered) → IsKind o q may_return 0 transfer (usual_kind (decoded_insn o (point_at o q)))
+pub usual_is : (o : Coded) (lists : NameLists) (q : ℕ) (may_return is_entered : Bool) (transfer : ℕ) → StaysDecoded (decoded_insn o (point_at o q)).op → is_dead_end o (point_at o q) ≡ false → (may_return ≡ true) × (is_entered ≡ false) × (transfer ≡ 0) → ((other : NameLists) → is_at_entry (program_of o other) q ≡ is_entered) → IsKind o lists q may_return 0 transfer (usual_kind (decoded_insn o (point_at o q)))
 unfolding usual_kind
-usual_is o q may_return is_entered transfer stays passed told entered = record {
-  insn = same_in_program o (point_at o q) stays;
+usual_is o lists q may_return is_entered transfer stays passed told entered = record {
+  insn = same_in_program o lists (point_at o q) stays;
   rare_number = refl;
   transfer_number = told.2;
   dead_end = passed;
   returns = told.0;
-  entered = λ lists. entered lists ∙ told.1;
+  entered = λ other. entered other ∙ told.1;
 }

@@ -1,6 +1,7 @@
 -- The parts of a graph tell the program of an object.
-use Rattle.std.proofs.Common.{◌≡◌, ℕ, zero, suc, ◌+◌, ◌-◌, ◌^◌, ◌<◌, ◌≤◌, false, cond, List, [], ◌∷◌, Some, All, Contains, length, get_or, map, filter, take, drop, refl, sym, ap, ◌∙◌, subst, arith}
-use Rattle.std.specs.Prelude.{slice_get, slice_index, slice_index_or, slice_range}
+use Rattle.std.proofs.Common.{◌≡◌, ℕ, zero, suc, ◌+◌, ◌-◌, ◌^◌, ◌<◌, ◌≤◌, false, cond, List, [], ◌∷◌, Option, Some, None, All, Contains, length, get_or, map, filter, take, drop, refl, sym, ap, ◌∙◌, subst, arith}
+use Rattle.std.specs.Option.{option_or}
+use Rattle.std.specs.Prelude.{is_some, slice_get, slice_index, slice_index_or, slice_range}
 use Rattle.std.proofs.lemmas.Option.{get_or_from_slice_get, slice_get_within}
 use Rattle.std.proofs.lemmas.List.{get_or-drop}
 use Rattle.std.proofs.lemmas.List.Elements.{All-head, All-tail}
@@ -13,10 +14,13 @@ use Rattle.machine_defs.specs.Program.{Program, edge}
 use Rattle.machine_defs.specs.Kept.{can_go, edges_of}
 use Rattle.flow_defs.specs.Code.{point_at}
 use Rattle.flow_defs.specs.Edges.{goes}
+use Rattle.flow_defs.specs.Arrival.{hint_of, own_hint_of, start_hint_of}
 use Rattle.flow_defs.specs.Hints.{is_restore}
 use Rattle.flow_defs.specs.Marks.{marks_of}
 use Rattle.flow_defs.specs.Program.{comes_back, graph_of, program_of, returning_graph, text_sections_of, unsized_of}
 use Rattle.flow_defs.specs.Sites.{sites_of}
+use Rattle.symbols_relocs.specs.Covers.{is_linked}
+use Rattle.state_defs.specs.declared.state.HintState.{HintState}
 use Rattle.object_points.proofs.Meant.{other_means}
 use Rattle.program_graph.specs.declared.parts.GraphParts.{GraphParts}
 use Rattle.program_graph.specs.declared.parts.Hinted.{Hinted}
@@ -58,10 +62,14 @@ first_taken (suc n) (y ∷ ys) x d is = let own : get_or (take (suc n) (y ∷ ys
 first_in_range : {X : Type 0} (xs : List X) (a b : ℕ) (x d : X) → slice_range xs a b ≡ x ∷ [] → get_or xs a d ≡ x
 first_in_range xs a b x d is = ap (λ (k : ℕ). get_or xs k d) (let same : a ≡ a + 0 = omega arith in same) ∙ sym (get_or-drop a xs 0 d) ∙ first_taken (b - a) (drop a xs) x d is
 
+no_own : (own start : Option HintState) → option_or own start ≡ None → is_some own ≡ false
+no_own None start none = refl
+no_own (Some hint) start none = let bad : ⊥ = cc in absurd bad
+
 -- the parts are what is listed of the object's points
 pub record AreParts (o : Coded) (lists : NameLists) (parts : GraphParts) (returns : Returns) (starts : List ℕ) (edges : List Edge) (rare_numbers transfer_numbers : List ℕ) : Type 0 where
   pub few : length parts.points.items < 2 ^ 32
-  pub points : AreMade o parts.owners.items returns rare_numbers transfer_numbers parts.kinds.items parts.points.items (count_of o)
+  pub points : AreMade o lists parts.owners.items returns rare_numbers transfer_numbers parts.kinds.items parts.points.items (count_of o)
   pub transfers : HaveNumbers (IsTransferOf o returns) parts.transfers.items transfer_numbers (count_of o)
   pub rares : AreRares o parts.restores.items parts.rares.items parts.hinted.items rare_numbers (count_of o)
   pub returns_shape : HaveReturnShape (count_of o) returns
@@ -73,6 +81,7 @@ pub record AreParts (o : Coded) (lists : NameLists) (parts : GraphParts) (return
   pub sites : map site_of parts.sites.items ≡ sites_of o
   pub texts : map text_of parts.texts.items ≡ text_sections_of o.elf
   pub without_size : parts.without_size.items ≡ unsized_of o.elf
+  pub linked : parts.linked ≡ is_linked o.elf
 
 module _ (o : Coded) (lists : NameLists) (parts : GraphParts) (returns : Returns) (starts : List ℕ) (edges : List Edge) (rares transfers : List ℕ) (are : AreParts o lists parts returns starts edges rares transfers) where
   -- what a point has that few have
@@ -82,9 +91,9 @@ module _ (o : Coded) (lists : NameLists) (parts : GraphParts) (returns : Returns
   inside : (q : ℕ) (x : GraphPoint) → slice_get parts.points.items q ≡ Some x → q < count_of o
   inside q x at = omega (arith, slice_get_within parts.points.items q x at, are.points.long)
 
-  tells_owner : (q : ℕ) (w : Owner) → IsOwnerOf o q w → TellsOwner (program_of o lists) q w
+  tells_owner : (q : ℕ) (w : Owner) → IsOwnerOf o lists q w → TellsOwner (program_of o lists) q w
   unfolding program_of returning_graph graph_of
-  tells_owner q w is = record { function = is.function; owner = is.owner; unchecked = is.unchecked; in_patches = is.patches }
+  tells_owner q w is = record { function = is.function; owner = is.owner; unchecked = is.unchecked; in_patches = is.patches; loose = is.loose; uncovered = is.covered }
 
   means : (q r : ℕ) → IsMeant o q r → Means (program_of o lists) q r
   unfolding program_of returning_graph graph_of
@@ -98,14 +107,16 @@ module _ (o : Coded) (lists : NameLists) (parts : GraphParts) (returns : Returns
   unfolding program_of returning_graph graph_of
   tells_hinted q x is = record {
     hint = is.hint;
+    own = is.own;
     save_of = is.save_of;
     restores = λ r. (λ c. means q r ((is.restores r).0 c), λ m. (is.restores r).1 (meant q r m));
   }
 
   tells_unhinted : (q : ℕ) → IsUnhinted o q → TellsUnhinted (program_of o lists) q
-  unfolding program_of returning_graph graph_of
+  unfolding program_of returning_graph graph_of hint_of
   tells_unhinted q is = record {
     hint = is;
+    own = no_own (own_hint_of o (point_at o q)) (start_hint_of o (point_at o q)) is;
     save_of = other_means o (point_at o q) (ap is_restore is);
     restores = λ r m. meant_has_hint o (point_at o r) q (meant q r m).2 is;
   }
@@ -120,9 +131,9 @@ module _ (o : Coded) (lists : NameLists) (parts : GraphParts) (returns : Returns
     unhinted = λ number. tells_unhinted q (is.known.unhinted number);
   }
 
-  marks_are : (q : ℕ) → q < count_of o → slice_index_or returns.comes_back.items q false ≡ comes_back o lists (point_at o q)
+  marks_are : (q : ℕ) → q < count_of o → slice_index_or returns.comes_back.items q false ≡ comes_back o lists q
   unfolding program_of returning_graph graph_of
-  marks_are q here = get_or_from_slice_get returns.comes_back.items q (target_may_return (program_of o lists) ((program_of o lists).role q)) false (are.returns_told.told.comes_back q here) ∙ comes_back_is o lists q
+  marks_are q here = get_or_from_slice_get returns.comes_back.items q (target_may_return (program_of o lists) q) false (are.returns_told.told.comes_back q here) ∙ comes_back_is o lists q
 
   returns_are : (q : ℕ) → q < count_of o → slice_index_or returns.may_return.items q false ≡ (program_of o lists).may_return q
   unfolding program_of returning_graph graph_of
@@ -134,21 +145,22 @@ module _ (o : Coded) (lists : NameLists) (parts : GraphParts) (returns : Returns
     role = is.role;
     marks = ap (marks_of o (point_at o q)) (sym (marks_are q here)) ∙ is.marks;
     calls_fentry = is.calls_fentry;
+    names = is.names;
   }
 
   same_some : {X : Type 0} {a b : X} → Some a ≡ Some b → a ≡ b
   same_some e = cc
 
   -- the kind that a point names is its own
-  kind_is : (q : ℕ) (x : GraphPoint) (k : PointKind) → slice_get parts.points.items q ≡ Some x → slice_get parts.kinds.items x.kind ≡ Some k → IsKind o q (slice_index_or returns.may_return.items q false) (slice_index rares q) (slice_index transfers q) k
+  kind_is : (q : ℕ) (x : GraphPoint) (k : PointKind) → slice_get parts.points.items q ≡ Some x → slice_get parts.kinds.items x.kind ≡ Some k → IsKind o lists q (slice_index_or returns.may_return.items q false) (slice_index rares q) (slice_index transfers q) k
   kind_is q x k at named =
       let made = are.points.each q x at in
-      subst (IsKind o q (slice_index_or returns.may_return.items q false) (slice_index rares q) (slice_index transfers q)) (same_some (sym made.named ∙ named)) made.is_kind
+      subst (IsKind o lists q (slice_index_or returns.may_return.items q false) (slice_index rares q) (slice_index transfers q)) (same_some (sym made.named ∙ named)) made.is_kind
 
-  kind_of : (q : ℕ) (k : PointKind) → IsKindOf parts q k → IsKind o q (slice_index_or returns.may_return.items q false) (slice_index rares q) (slice_index transfers q) k
+  kind_of : (q : ℕ) (k : PointKind) → IsKindOf parts q k → IsKind o lists q (slice_index_or returns.may_return.items q false) (slice_index rares q) (slice_index transfers q) k
   kind_of q k is = kind_is q is.point k is.at is.named
 
-  tells_kind : (q : ℕ) (k : PointKind) → q < count_of o → IsKind o q (slice_index_or returns.may_return.items q false) (slice_index rares q) (slice_index transfers q) k → TellsKind (program_of o lists) parts q k
+  tells_kind : (q : ℕ) (k : PointKind) → q < count_of o → IsKind o lists q (slice_index_or returns.may_return.items q false) (slice_index rares q) (slice_index transfers q) k → TellsKind (program_of o lists) parts q k
   unfolding program_of returning_graph graph_of
   tells_kind q k here is = record {
     insn = is.insn;
@@ -219,6 +231,7 @@ module _ (o : Coded) (lists : NameLists) (parts : GraphParts) (returns : Returns
     sites = sym are.sites;
     texts = sym are.texts;
     unsized = sym are.without_size;
+    linked = sym are.linked;
   }
 
   pub parts_have_shape : HaveShape parts

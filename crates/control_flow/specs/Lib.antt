@@ -8,9 +8,11 @@ pub mod Kinds
 pub mod Listed
 pub mod Lone
 pub mod Named
+pub mod NamedAt
 pub mod Numbers
 pub mod Points
 pub mod Rares
 pub mod Returns
 pub mod ReturnsOfEdges
+pub mod Switched
 pub mod Transfers

@@ -1,5 +1,5 @@
 -- What is listed of the points of an object, by their numbers.
-use Rattle.std.specs.Prelude.{◌≡◌, ◌↔◌, ◌+◌, ◌^◌, ◌<◌, ◌≤◌, ℕ, Bool, List, [], ◌∷◌, Option, Some, None, All, Contains, length, slice_index, slice_index_or, slice_range}
+use Rattle.std.specs.Prelude.{◌≡◌, ◌≢◌, ◌↔◌, ◌+◌, ◌^◌, ◌<◌, ◌≤◌, ℕ, Bool, List, [], ◌∷◌, Option, Some, None, All, Contains, length, slice_index, slice_index_or, slice_range}
 use Rattle.std.specs.List.Sorted.{IsNonDecreasing}
 use Rattle.ot_base.specs.NameLists.{NameLists}
 use Rattle.flow_defs.specs.Coded.{Coded}
@@ -18,6 +18,7 @@ use Rattle.return_search.specs.declared.searched_flow.Exit.TheVariants.{Calls}
 use Rattle.return_search.specs.Told.{exit_of}
 use Rattle.point_edges.specs.Entered.{IsEnteredAt}
 use Rattle.control_flow.specs.Lone.{HasEdgesOf}
+use Rattle.control_flow.specs.NamedAt.{IsNamedAt}
 
 -- how many points an object has
 abbrev pub count_of : Coded → ℕ
@@ -47,10 +48,13 @@ pub record AreDeadEnds (o : Coded) (dead_ends : List Bool) (n : ℕ) : Type 0 wh
 abbrev pub IsPointIfAny : Coded → Option ℕ → Type 0
 IsPointIfAny o found = (entry : ℕ) → found ≡ Some entry → entry < count_of o
 
--- the entries at which control comes to stand at the first n points
+-- by what numbers calls name the first n points: entries by which control comes to stand there, and plain points of no function
+-- that stand elsewhere
 pub record AreEntered (o : Coded) (entered : List (Option ℕ)) (n : ℕ) : Type 0 where
   pub long : length entered ≡ n
-  pub each : (q entry : ℕ) → q < n → IsEnteredAt o entry q ↔ (slice_index_or entered q None ≡ Some entry)
+  pub entries : (q entry : ℕ) → q < n → IsEnteredAt o entry q → slice_index_or entered q None ≡ Some entry
+  pub others : (q entry : ℕ) → q < n → IsNamedAt o entry q → q ≢ entry → slice_index_or entered q None ≡ Some entry
+  pub right : (q entry : ℕ) → q < n → slice_index_or entered q None ≡ Some entry → IsNamedAt o entry q
   pub known : All (IsPointIfAny o) entered
 
 -- What is listed of point q says that it has the edges of another: one edge, which leads there.

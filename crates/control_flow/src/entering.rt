@@ -1,26 +1,30 @@
-//! The entries at which control comes to stand at the points, listed from where functions start.
+//! By what numbers calls name the points, listed from where functions and alternatives sites start.
 
-ghost use Rattle.std.specs.Prelude.{◌≡◌, ◌+◌, ◌<◌, ◌^◌, ◌⊎◌, ℕ, Option, None, Some, All, Contains, IfOk, OnOk, length, replicate, slice_index_or};
-ghost use Rattle.flow_defs.specs.Code.{point_at};
-ghost use Rattle.point_edges.specs.Entered.{IsEnteredAt};
-ghost use Rattle.control_flow.specs.Entering.{AreRight};
+ghost use Rattle.std.specs.Prelude.{◌≡◌, ◌+◌, ◌<◌, ◌^◌, ◌⊎◌, ◌||◌, ℕ, List, Option, None, Some, All, Contains, IfOk, OnOk, is_none, length, replicate, slice_index_or};
+ghost use Rattle.flow_defs.specs.Code.{alternatives_of, point_at};
+ghost use Rattle.flow_defs.specs.Owners.{is_entry as is_an_entry, owner_of_point};
+ghost use Rattle.symbols_relocs.specs.declared.function.Function.{Function};
+ghost use Rattle.symbols_relocs.specs.Lists.{AreFunctions};
+ghost use Rattle.control_flow.specs.Entering.{AreRight, starts_of};
 ghost use Rattle.control_flow.specs.Listed.{AreEntered, count_of};
+ghost use Rattle.control_flow.specs.NamedAt.{IsNamedAt};
 
 use crate::listed::count_points;
 use alternatives::Point;
+use object_points::PointPlaces;
 use ot_base::{NoMemory, Place};
 use point_edges::FlowPoints;
 use return_search::StoredEntry;
 use std::alloc::Global;
 
-/// Control comes to stand at none of so many points.
+/// Calls name none of so many points.
 fn none_entered(alloc: Global, count: u32) -> Result<Vec<StoredEntry>, NoMemory>
     ensures { IfOk result (λ entered. entered.items ≡ replicate count None) }
 {
     Ok(vec![in alloc; StoredEntry::none(); count as usize]?)
 }
 
-/// Lists an entry for each of these points.
+/// Lists a number for each of these points.
 fn enter(entered: &mut Vec<StoredEntry>, stands: &[u32], entry: u32)
     requires stands { All (λ q. q < length entered.old.items) stands.now }
     requires entry { entry + 1 < 2 ^ 32 }
@@ -33,7 +37,15 @@ fn enter(entered: &mut Vec<StoredEntry>, stands: &[u32], entry: u32)
     }
 }
 
-/// Lists the entry at a place, if one is there, for each point at which control may stand that comes to it.
+/// Whether calls may name the plain point with a number, at a place, by it: an entry stands there, or it is code of no function.
+fn is_called(places: &PointPlaces<'_, '_, '_>, entry: u32, start: Place) -> bool
+    requires { entry < count_of places.now }
+    ensures { result ≡ (is_an_entry places.now.elf start || is_none (owner_of_point places.now (point_at places.now entry))) }
+{
+    places.is_entry(start) || places.owner(entry).is_none()
+}
+
+/// Lists the plain point at a place, if calls may name it, for each point at which control may stand that comes there.
 fn enter_start(
     alloc: Global,
     points: &FlowPoints<'_, '_, '_>,
@@ -44,25 +56,41 @@ fn enter_start(
     requires right { AreRight points.now entered.old.items }
     ensures right { OnOk result (AreRight points.now entered.new.items) }
     ensures kept { OnOk result ((q entry : ℕ) → slice_index_or entered.old.items q None ≡ Some entry → slice_index_or entered.new.items q None ≡ Some entry) }
-    ensures listed { OnOk result ((q entry : ℕ) → IsEnteredAt points.now entry q → (point_at points.now entry).place ≡ start → slice_index_or entered.new.items q None ≡ Some entry) }
+    ensures listed { OnOk result ((q entry : ℕ) → IsNamedAt points.now entry q → (point_at points.now entry).place ≡ start → slice_index_or entered.new.items q None ≡ Some entry) }
 {
     let places = points.places();
-    if !places.is_entry(start) {
-        return Ok(());
-    }
     let Some(entry) = places.number_of(Point {
         place: start,
         variant: 0,
     }) else {
         return Ok(());
     };
+    if !is_called(places, entry, start) {
+        return Ok(());
+    }
     let stands = points.arrivals().arrive(alloc, start)?;
     enter(entered, stands.as_slice(), entry);
     Ok(())
 }
 
-/// The entries at which control comes to stand at the points. Of each function it is looked up where control stands that
-/// comes to its start.
+/// Where functions start, and the originals of alternatives.
+fn list_starts(alloc: Global, places: &PointPlaces<'_, '_, '_>) -> Result<Vec<Place>, NoMemory>
+    ensures { IfOk result (λ starts. (functions : List Function) × AreFunctions places.now.elf functions × (starts.items ≡ starts_of functions (alternatives_of places.now))) }
+{
+    let linked = places.linked();
+    let functions = linked.index().functions();
+    let entries = linked.special().alternatives();
+    let mut starts = functions
+        .iter()
+        .map(|function| function.start)
+        .collect(alloc)?;
+    let originals = entries.iter().map(|entry| entry.original).collect(alloc)?;
+    starts.extend_from_slice(&originals)?;
+    Ok(starts)
+}
+
+/// By what numbers calls name the points. Of each function and of each original of alternatives it is looked up where control stands
+/// that comes to its start.
 pub(crate) fn list_entered(
     alloc: Global,
     points: &FlowPoints<'_, '_, '_>,
@@ -70,9 +98,10 @@ pub(crate) fn list_entered(
     ensures { IfOk result (λ entered. AreEntered points.now entered.items (count_of points.now)) }
 {
     let places = points.places();
+    let starts = list_starts(alloc, places)?;
     let mut entered = none_entered(alloc, count_points(places))?;
-    for function in places.linked().index().functions() {
-        enter_start(alloc, points, &mut entered, function.start)?;
+    for k in 0..starts.len() {
+        enter_start(alloc, points, &mut entered, starts[k])?;
     }
     Ok(entered)
 }

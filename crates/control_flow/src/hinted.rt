@@ -4,13 +4,18 @@ ghost use Rattle.std.specs.Prelude.{◌≡◌, ◌<◌, ◌^◌, ◌++◌, ◌�
 ghost use Rattle.control_flow.specs.Hinted.{IsHinted, IsUnhinted};
 ghost use Rattle.control_flow.specs.Listed.{count_of};
 
-use object_points::HintPoints;
+use object_points::{HintPoints, PointPlaces};
 use ot_base::NoMemory;
 use program_graph::Hinted;
 
 /// What a point has that has a hint.
-pub(crate) fn hinted_of(hints: &HintPoints<'_, '_, '_, '_>, n: u32) -> Option<Hinted>
-    requires { n < count_of hints.now.object }
+pub(crate) fn hinted_of(
+    places: &PointPlaces<'_, '_, '_>,
+    hints: &HintPoints<'_, '_, '_, '_>,
+    n: u32,
+) -> Option<Hinted>
+    requires places { hints.now.object ≡ places.now }
+    requires point { n < count_of hints.now.object }
     ensures { MatchOption result (IsUnhinted hints.now.object n) (IsHinted hints.now.object hints.now.restores n) }
 {
     let hint = hints.hint(n);
@@ -20,6 +25,7 @@ pub(crate) fn hinted_of(hints: &HintPoints<'_, '_, '_, '_>, n: u32) -> Option<Hi
     let (restores_from, restores_to) = hints.restores_of(n);
     Some(Hinted {
         hint,
+        is_own: places.own_hint(n).is_some(),
         save_of: hints.save_of(n),
         restores_from,
         restores_to,

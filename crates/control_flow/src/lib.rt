@@ -19,6 +19,7 @@ mod preceding;
 mod rares;
 mod returning;
 mod starts;
+mod switching;
 mod symbol_names;
 mod transfers;
 

@@ -3,6 +3,7 @@
 ghost use Rattle.std.specs.Prelude.{◌≡◌, ◌<◌, ◌^◌, ℕ, All, IfOk, length, map};
 ghost use Rattle.flow_defs.specs.Program.{program_of, text_sections_of, unsized_of};
 ghost use Rattle.flow_defs.specs.Sites.{sites_of};
+ghost use Rattle.symbols_relocs.specs.Covers.{is_linked as is_linked_object};
 ghost use Rattle.program_graph.specs.Shape.{HaveShape};
 ghost use Rattle.program_graph.specs.Tells.{Tells, site_of, text_of};
 ghost use Rattle.control_flow.specs.Listed.{AreEntered, count_of};
@@ -25,6 +26,7 @@ use point_edges::FlowPoints;
 use program_graph::{GraphParts, GraphSite, Owner, TextSection};
 use return_search::Returns;
 use std::alloc::Global;
+use symbols_relocs::is_linked;
 
 /// What of the graph tells where control goes.
 #[derive(Drop)]
@@ -77,20 +79,21 @@ struct PointParts {
 fn point_parts(
     alloc: Global,
     points: &FlowPoints<'_, '_, '_>,
+    lists: &Lists,
     returns: &Returns,
     transfers: &[u32],
 ) -> Result<PointParts, NoMemory>
     requires shape { HaveReturnShape (count_of points.now) returns.now }
     requires entered { AreEntered points.now returns.now.entered.items (count_of points.now) }
     requires transfers { length transfers.now ≡ count_of points.now }
-    ensures made { IfOk result (λ own. AreMadeAll points.now own.owners.items own.restores.items returns.now transfers.now own.list.kinds.items own.list.rares own.list.points.items (count_of points.now)) }
+    ensures made { IfOk result (λ own. AreMadeAll points.now lists.now own.owners.items own.restores.items returns.now transfers.now own.list.kinds.items own.list.rares own.list.points.items (count_of points.now)) }
     ensures few { IfOk result (λ own. length own.list.points.items < 2 ^ 32) }
     ensures restores { IfOk result (λ own. All (λ r. r < count_of points.now) own.restores.items) }
 {
     let places = points.places();
     let hints = HintPoints::build(alloc, places)?;
-    let owners = OwnerTable::build(alloc, places)?;
-    let list = list_points(alloc, points, &hints, &owners, returns, transfers)?;
+    let owners = OwnerTable::build(alloc, places, lists)?;
+    let list = list_points(alloc, points, &hints, &owners, lists, returns, transfers)?;
     restores_are_points(&hints);
     Ok(PointParts {
         list,
@@ -105,6 +108,7 @@ struct PlaceParts {
     sites: Vec<GraphSite>,
     texts: Vec<TextSection>,
     without_size: Vec<Place>,
+    linked: bool,
 }
 
 /// What of the graph stands beside the points.
@@ -112,12 +116,14 @@ fn place_parts(alloc: Global, places: &PointPlaces<'_, '_, '_>) -> Result<PlaceP
     ensures sites { IfOk result (λ beside. map site_of beside.sites.items ≡ sites_of places.now) }
     ensures texts { IfOk result (λ beside. map text_of beside.texts.items ≡ text_sections_of places.now.elf) }
     ensures without_size { IfOk result (λ beside. beside.without_size.items ≡ unsized_of places.now.elf) }
+    ensures linked { IfOk result (λ beside. beside.linked ≡ is_linked_object places.now.elf) }
 {
     let object = places.linked().object();
     Ok(PlaceParts {
         sites: list_sites(alloc, places)?,
         texts: list_texts(alloc, object)?,
         without_size: list_without_size(alloc, object)?,
+        linked: is_linked(object),
     })
 }
 
@@ -131,7 +137,7 @@ pub(crate) fn parts_of(
     ensures shape { IfOk result HaveShape }
 {
     let edges = edge_parts(alloc, points, lists)?;
-    let own = point_parts(alloc, points, &edges.returns, &edges.transfers.numbers)?;
+    let own = point_parts(alloc, points, lists, &edges.returns, &edges.transfers.numbers)?;
     let beside = place_parts(alloc, points.places())?;
     let EdgeParts {
         returns,
@@ -157,5 +163,6 @@ pub(crate) fn parts_of(
         sites: beside.sites,
         texts: beside.texts,
         without_size: beside.without_size,
+        linked: beside.linked,
     })
 }

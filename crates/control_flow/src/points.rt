@@ -10,13 +10,15 @@ ghost use Rattle.control_flow.specs.Listed.{AreEntered, count_of};
 ghost use Rattle.object_points.specs.Decoded.{AreDecoded};
 ghost use Rattle.control_flow.specs.Kinds.{AreUsual};
 ghost use Rattle.control_flow.specs.Points.{AreMadeAll, HasKind, IsKind, IsPlaced};
+ghost use Rattle.control_flow.specs.Switched.{AreSwitching};
 
 use crate::kinds::KindTable;
 use crate::listed::count_points;
 use crate::low::point_is_low;
 use crate::rares::{RareTable, is_usual};
+use crate::switching::{SwitchingCode, insn, list_switching};
 use object_points::{HintPoints, OwnerTable};
-use ot_base::NoMemory;
+use ot_base::{Lists, NoMemory};
 use point_edges::{FlowPoints, object_is_in_order};
 use program_graph::{GraphPoint, PointKind};
 use return_search::Returns;
@@ -38,15 +40,17 @@ struct Told {
 fn kind_of(
     alloc: Global,
     points: &FlowPoints<'_, '_, '_>,
+    switching: SwitchingCode<'_>,
     n: u32,
     told: Told,
     rare: u32,
 ) -> Result<PointKind, NoMemory>
+    requires switching { AreSwitching points.now switching.lists.now switching.extents.now }
     requires point { n < count_of points.now }
     requires entered { (lists : NameLists) → is_at_entry (program_of points.now lists) n ≡ told.is_entered }
-    ensures { IfOk result (IsKind points.now n told.may_return rare told.transfer) }
+    ensures { IfOk result (IsKind points.now switching.lists.now n told.may_return rare told.transfer) }
 {
-    let insn = points.arrivals().insn(alloc, n)?;
+    let insn = insn(alloc, points, switching, n)?;
     Ok(PointKind {
         op: insn.op,
         rare,
@@ -56,6 +60,19 @@ fn kind_of(
         may_return: told.may_return,
         is_entered: told.is_entered,
     })
+}
+
+/// Whether control that comes to some entry may stand at a point: calls name it, and it is a function's.
+fn is_entered(points: &FlowPoints<'_, '_, '_>, returns: &Returns, n: u32) -> bool
+    requires point { n < count_of points.now }
+    requires returns { HaveShape (count_of points.now) returns.now }
+    requires entered { AreEntered points.now returns.now.entered.items (count_of points.now) }
+    ensures { (lists : NameLists) → is_at_entry (program_of points.now lists) n ≡ result }
+{
+    if !returns.entered[n as usize].is_some() {
+        return false;
+    }
+    points.places().owner(n).is_some()
 }
 
 /// Whether what is told of a point is what is told of most.
@@ -79,22 +96,24 @@ fn look_up_kind(
     alloc: Global,
     points: &FlowPoints<'_, '_, '_>,
     hints: &HintPoints<'_, '_, '_, '_>,
+    switching: SwitchingCode<'_>,
     shared: &mut Shared,
     n: u32,
     told: Told,
 ) -> Result<u32, NoMemory>
     requires hints { hints.now.object ≡ points.now }
+    requires switching { AreSwitching points.now switching.lists.now switching.extents.now }
     requires order { ObjectIsInOrder points.now }
     requires point { n < count_of points.now }
     requires entered { (lists : NameLists) → is_at_entry (program_of points.now lists) n ≡ told.is_entered }
     requires some { 0 < length shared.old.rares.rares.items }
     requires few { length shared.old.rares.rares.items < 2 ^ 32 }
     requires few_hinted { length shared.old.rares.hinted.items < 2 ^ 32 }
-    ensures kind { IfOk result (HasKind points.now hints.now.restores n told.may_return told.transfer shared.old shared.new) }
+    ensures kind { IfOk result (HasKind points.now switching.lists.now hints.now.restores n told.may_return told.transfer shared.old shared.new) }
     ensures stay { shared.new.kinds.stay.items ≡ shared.old.kinds.stay.items }
 {
     let rare = shared.rares.add(points, hints, n)?;
-    let kind = kind_of(alloc, points, n, told, rare)?;
+    let kind = kind_of(alloc, points, switching, n, told, rare)?;
     shared.kinds.number_of(&kind)
 }
 
@@ -104,12 +123,14 @@ fn number_kind(
     alloc: Global,
     points: &FlowPoints<'_, '_, '_>,
     hints: &HintPoints<'_, '_, '_, '_>,
+    switching: SwitchingCode<'_>,
     insns: NumberedInsns<'_>,
     shared: &mut Shared,
     n: u32,
     told: Told,
 ) -> Result<u32, NoMemory>
     requires hints { hints.now.object ≡ points.now }
+    requires switching { AreSwitching points.now switching.lists.now switching.extents.now }
     requires order { ObjectIsInOrder points.now }
     requires point { n < count_of points.now }
     requires insns { AreDecoded points.now insns.kinds.now insns.numbers.now }
@@ -118,7 +139,7 @@ fn number_kind(
     requires some { 0 < length shared.old.rares.rares.items }
     requires few { length shared.old.rares.rares.items < 2 ^ 32 }
     requires few_hinted { length shared.old.rares.hinted.items < 2 ^ 32 }
-    ensures kind { IfOk result (HasKind points.now hints.now.restores n told.may_return told.transfer shared.old shared.new) }
+    ensures kind { IfOk result (HasKind points.now switching.lists.now hints.now.restores n told.may_return told.transfer shared.old shared.new) }
     ensures stay { shared.new.kinds.stay.items ≡ shared.old.kinds.stay.items }
 {
     if is_told_usual(told) && !points.arrivals().is_dead_end(n) && is_usual(points, n) {
@@ -129,7 +150,7 @@ fn number_kind(
     }
     // What is handed on is a copy, so that what is told of most points needn't stand in memory.
     let other = told;
-    look_up_kind(alloc, points, hints, shared, n, other)
+    look_up_kind(alloc, points, hints, switching, shared, n, other)
 }
 
 /// The point with a number, whose kind has a number.
@@ -142,7 +163,7 @@ fn point_of(
 ) -> GraphPoint
     requires point { n < count_of points.now }
     requires owners { owners.now.object ≡ points.now }
-    ensures { IsPlaced points.now owners.now.owners n kind result }
+    ensures { IsPlaced points.now owners.now.lists owners.now.owners n kind result }
 {
     let places = points.places();
     let place = places.point(n).place;
@@ -170,21 +191,28 @@ pub(crate) fn list_points(
     points: &FlowPoints<'_, '_, '_>,
     hints: &HintPoints<'_, '_, '_, '_>,
     owners: &OwnerTable<'_, '_, '_, '_>,
+    lists: &Lists,
     returns: &Returns,
     transfers: &[u32],
 ) -> Result<PointList, NoMemory>
     requires hints { hints.now.object ≡ points.now }
     requires owners { owners.now.object ≡ points.now }
+    requires lists { owners.now.lists ≡ lists.now }
     requires returns { HaveShape (count_of points.now) returns.now }
     requires entered { AreEntered points.now returns.now.entered.items (count_of points.now) }
     requires transfers { length transfers.now ≡ count_of points.now }
-    ensures made { IfOk result (λ list. AreMadeAll points.now owners.now.owners hints.now.restores returns.now transfers.now list.kinds.items list.rares list.points.items (count_of points.now)) }
+    ensures made { IfOk result (λ list. AreMadeAll points.now lists.now owners.now.owners hints.now.restores returns.now transfers.now list.kinds.items list.rares list.points.items (count_of points.now)) }
     ensures few { IfOk result (λ list. length list.points.items < 2 ^ 32) }
 {
     let places = points.places();
     object_is_in_order(places.linked());
     let count = count_points(places);
     let insns = places.numbered_insns();
+    let extents = list_switching(alloc, places, lists)?;
+    let switching = SwitchingCode {
+        lists,
+        extents: &extents,
+    };
     let mut shared = Shared {
         kinds: KindTable::new(alloc, insns.kinds)?,
         rares: RareTable::new(alloc)?,
@@ -194,10 +222,19 @@ pub(crate) fn list_points(
         let k = n as usize;
         let told = Told {
             may_return: returns.may_return[k],
-            is_entered: returns.entered[k].is_some(),
+            is_entered: is_entered(points, returns, n),
             transfer: transfers[k],
         };
-        let kind = number_kind(alloc, points, hints, insns, &mut shared, n, told)?;
+        let kind = number_kind(
+            alloc,
+            points,
+            hints,
+            switching,
+            insns,
+            &mut shared,
+            n,
+            told,
+        )?;
         made.push_reserved(point_of(points, owners, n, kind));
     }
     let Shared { kinds, rares } = shared;

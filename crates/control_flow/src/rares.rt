@@ -166,8 +166,9 @@ impl RareTable {
         requires few_hinted { length self.old.hinted.items < 2 ^ 32 }
         ensures { IfOk result (λ number. (numbers : List ℕ) → AreRares points.now hints.now.restores self.old.rares.items self.old.hinted.items numbers n → AreRares points.now hints.now.restores self.new.rares.items self.new.hinted.items (numbers ++ number ∷ []) (n + 1)) }
     {
-        let known = push_hinted(&mut self.hinted, hinted_of(hints, n))?;
-        number_rare(&mut self.rares, rare_of(points.places(), n, known))
+        let places = points.places();
+        let known = push_hinted(&mut self.hinted, hinted_of(places, hints, n))?;
+        number_rare(&mut self.rares, rare_of(places, n, known))
     }
 
     /// Lists what a point has where few have it, and tells where it stands. That of most points is the first.

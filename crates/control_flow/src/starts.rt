@@ -1,6 +1,7 @@
 //! The starts of functions.
 
 ghost use Rattle.std.specs.Prelude.{◌≡◌, find, option_map, slice_get};
+ghost use Rattle.ot_base.specs.NameLists.{NameLists};
 ghost use Rattle.elf_objects.specs.Object.{IsObject};
 ghost use Rattle.flow_defs.specs.Faults.{is_no_start as is_no_start_of, start_faults};
 ghost use Rattle.flow_defs.specs.declared.fault.FlowFault.TheVariants.{FuncStart};
@@ -25,7 +26,7 @@ fn find_misplaced(places: &PointPlaces<'_, '_, '_>, functions: &[Function]) -> O
 pub(crate) fn find_bad_start(places: &PointPlaces<'_, '_, '_>) -> Option<u32>
     requires { IsObject places.now.elf.bytes places.now.elf }
     ensures first { option_map FuncStart result ≡ slice_get (start_faults places.now) 0 }
-    ensures linked { IsLinked places.now }
+    ensures linked { (lists : NameLists) × IsLinked places.now lists }
 {
     let linked = places.linked();
     if linked.texts().is_empty() {

@@ -10,4 +10,5 @@ pub returns : goal.returns
 returns c =
     let o : Coded = c.args.places.now in
     let all = c.texts.ensures.value ∙ ap texts_of c.linked.ensures in
-    low_point o c.args.n (subst IsLinked c.linked.ensures c.texts.ensures.linked) (subst (λ ts. text_bytes ts ≤ 16777216) all c.texts.ensures.little) c.requires
+    let lists = c.texts.ensures.linked.0 in
+    low_point o lists c.args.n (subst (λ (e : Coded). IsLinked e lists) c.linked.ensures c.texts.ensures.linked.1) (subst (λ ts. text_bytes ts ≤ 16777216) all c.texts.ensures.little) c.requires

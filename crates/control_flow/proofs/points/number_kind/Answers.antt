@@ -42,7 +42,7 @@ returns-then-stays-clause-kind c =
     record {
       rare = 0;
       kind = usual_kind decoded;
-      is_kind = usual_is o n c.args.told.may_return c.args.told.is_entered c.args.told.transfer stay passed (c.is_told_usual.ensures.0 c.if-is_told_usual.true) c.requires.entered;
+      is_kind = usual_is o c.args.switching.lists.now n c.args.told.may_return c.args.told.is_entered c.args.told.transfer stay passed (c.is_told_usual.ensures.0 c.if-is_told_usual.true) c.requires.entered;
       numbered = stays kinds kinds (usual_kind decoded) k refl here;
       rares = λ all are. more_rares o c.args.hints.now.restores rares rares hinted hinted all n None None 0 USUAL are
           (c.is_usual.ensures.hint c.if-is_usual.true) (refl, refl) (c.is_usual.ensures.rare c.if-is_usual.true) (stays rares rares USUAL 0 refl are.usual);

@@ -26,7 +26,7 @@ returns-in_err-function-clause-first c =
     let o : Coded = c.args.places.now in
     let fs : List Function = c.functions.result.now in
     let all : AreFunctions o.elf fs = subst (λ (e : Elf). AreFunctions e fs) (c.index.ensures ∙ ap (λ (e : Coded). e.elf) c.linked-linked.ensures) c.functions.ensures.all in
-    let right : first_bad o.elf ≡ None = subst (λ (e : Coded). first_bad e.elf ≡ None) c.linked-linked.ensures c.texts.ensures.linked.before.functions in
+    let right : first_bad o.elf ≡ None = subst (λ (e : Coded). first_bad e.elf ≡ None) c.linked-linked.ensures c.texts.ensures.linked.1.before.functions in
     ap (option_map FuncStart) c.from_residual.ensures
     ∙ sym (first_start o fs all c.requires right ∙ ap (option_map fault_of) (sym c.find_misplaced.ensures ∙ c.in_err-function.was))
 
@@ -35,5 +35,5 @@ returns-clause-first c =
     let o : Coded = c.args.places.now in
     let fs : List Function = c.functions.result.now in
     let all : AreFunctions o.elf fs = subst (λ (e : Elf). AreFunctions e fs) (c.index.ensures ∙ ap (λ (e : Coded). e.elf) c.linked-linked.ensures) c.functions.ensures.all in
-    let right : first_bad o.elf ≡ None = subst (λ (e : Coded). first_bad e.elf ≡ None) c.linked-linked.ensures c.texts.ensures.linked.before.functions in
+    let right : first_bad o.elf ≡ None = subst (λ (e : Coded). first_bad e.elf ≡ None) c.linked-linked.ensures c.texts.ensures.linked.1.before.functions in
     sym (first_start o fs all c.requires right ∙ ap (option_map fault_of) (sym c.find_misplaced.ensures ∙ c.in_ok-function.was))
