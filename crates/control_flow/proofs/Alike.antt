@@ -1,6 +1,6 @@
 -- Lone jumps through one table go alike.
 use Rattle.std.proofs.Common.{◌≡◌, ℕ, ℤ, ◌⊎◌, inl, inr, Bool, true, false, cond, ◌&&◌, ◌||◌, not, List, [], ◌∷◌, ◌++◌, All, Option, Some, None, find, refl, sym, ap, ◌∙◌, subst}
-use Rattle.std.specs.Prelude.{is_none, take_while}
+use Rattle.std.specs.Prelude.{is_none, is_some, take_while}
 use Rattle.std.specs.List.{flat_map, list_any}
 use Rattle.std.proofs.lemmas.Bool.{eqb-true, false≢true}
 use Rattle.std.proofs.Math.Bool.{and-false}
@@ -32,12 +32,13 @@ use Rattle.flow_defs.specs.Arrival.{after, arrive, insn_of_object, is_at_end, is
 use Rattle.flow_defs.specs.Code.{alternatives_of, is_plain, texts_of}
 use Rattle.flow_defs.specs.Edges.{branch_edges, branch_edges_by, edges_to, ends_flow, fixups, goes, goes_on, is_some_place, jump_edges, listed_edges, next_edges, static_targets, table_edges, way_edges}
 use Rattle.flow_defs.specs.Faults.{is_past_start}
-use Rattle.flow_defs.specs.Marks.{calls_into_function, has_bad_target, has_relocated_offset, has_stack_offset, has_target_in_site, is_bad_by, is_bad_jump, is_bad_listed, is_inner_call_by, jump_places, listed_places, marks_of, places_by, target_places}
+use Rattle.flow_defs.specs.Marks.{branch_places, calls_into_function, has_bad_target, has_relocated_offset, has_stack_offset, has_target_in_site, is_bad_branch, is_bad_by, is_bad_jump, is_bad_listed, is_inner_call_by, jump_places, listed_places, marks_of, places_by, target_places}
 use Rattle.flow_defs.specs.Owners.{is_unchecked_point, owner_of_point}
-use Rattle.flow_defs.specs.Roles.{jump_by_table, jump_role, role_by, role_of, table_of_point}
+use Rattle.flow_defs.specs.Roles.{jump_by_table, jump_role, returns_through, role_by, role_of, role_through, table_of_point}
 use Rattle.flow_defs.specs.Sites.{enters_site, is_into_site, is_original_of, site_holding, sites_of}
 use Rattle.flow_defs.specs.Targets.{destination_of}
 use Rattle.point_edges.specs.Tables.{table_start_of}
+use Rattle.control_flow.proofs.Undirected.{by_thunk_through, is_by_memory, memory_through}
 use Rattle.control_flow.specs.Lone.{GoAlike, is_in_open_code, is_indirect_jump, is_indirect_thunk, is_lone_jump, is_unlisted}
 
 bool_cases : (b : Bool) → (b ≡ true) ⊎ (b ≡ false)
@@ -108,6 +109,12 @@ by_table o p (ops.JmpInd table) h = record { ends = refl; role = refl; branch = 
 by_table o p (ops.Jmp rel wide) h = by_thunk o p rel wide (is_thunk (destination_of o p) h)
 by_table o p _ h = absurd (false≢true h)
 
+-- nor does it return through code that returns for its caller
+through_by : (o : Coded) (p : Point) (op : Op) → is_indirect_jump op (destination_of o p) ≡ true → (is_by_memory op ≡ true → returns_through o p ≡ None) → returns_through o p ≡ None
+through_by o p (ops.JmpInd table) h memory = memory refl
+through_by o p (ops.Jmp rel wide) h memory = by_thunk_through o p (is_thunk (destination_of o p) h)
+through_by o p _ h memory = absurd (false≢true h)
+
 -- the table of an owner is that of its first entry's
 same_owner_is : (a b : Option ℕ) → same_owner a b ≡ true → a ≡ b
 same_owner_is None None h = refl
@@ -175,6 +182,18 @@ module _ (o : Coded) (p : Point) (lone : is_lone_jump o p ≡ true) where
   by : ByTable o p insn.op
   by = by_table o p insn.op (both (is_indirect_jump insn.op (destination_of o p)) _ parts).0
 
+  not_through : returns_through o p ≡ None
+  not_through = through_by o p insn.op (both (is_indirect_jump insn.op (destination_of o p)) _ parts).0 (memory_through o p)
+
+  no_branch : branch_edges o p ≡ []
+  no_branch = ap (λ (t : Option ℕ). cond (is_some t) [] (branch_edges_by o p insn.op)) not_through ∙ by.branch
+
+  not_bad_branch : is_bad_branch o p ≡ false
+  not_bad_branch = ap (λ (t : Option ℕ). is_none t && is_bad_by o p insn.op) not_through ∙ by.bad
+
+  no_branch_places : branch_places o p ≡ []
+  no_branch_places = ap (λ (t : Option ℕ). cond (is_some t) [] (places_by o p insn.op)) not_through ∙ by.places
+
   behind : (is_some_place (table_of_point o p) ≡ true) × ((is_unlisted o p && is_in_open_code o p) ≡ true)
   behind = both (is_some_place (table_of_point o p)) _ (both (is_indirect_jump insn.op (destination_of o p)) _ parts).1
 
@@ -224,18 +243,18 @@ module _ (o : Coded) (p : Point) (lone : is_lone_jump o p ≡ true) where
   lone_goes =
       ap (λ b. cond b [] (next_edges o p ++ (branch_edges o p ++ (listed_edges o Taken p (static_targets o p) ++ (listed_edges o Fixup p (fixups o p) ++ table_edges o p))))) checked
       ∙ (ap (λ (l : List Edge). l ++ (branch_edges o p ++ (listed_edges o Taken p (static_targets o p) ++ (listed_edges o Fixup p (fixups o p) ++ table_edges o p)))) no_next
-      ∙ (ap (λ (l : List Edge). l ++ (listed_edges o Taken p (static_targets o p) ++ (listed_edges o Fixup p (fixups o p) ++ table_edges o p))) by.branch
+      ∙ (ap (λ (l : List Edge). l ++ (listed_edges o Taken p (static_targets o p) ++ (listed_edges o Fixup p (fixups o p) ++ table_edges o p))) no_branch
       ∙ (ap (λ places. listed_edges o Taken p places ++ (listed_edges o Fixup p (fixups o p) ++ table_edges o p)) no_targets
       ∙ (ap (λ places. listed_edges o Fixup p places ++ table_edges o p) no_fixups ∙ by_entries))))
 
   pub lone_role : role_of o p ≡ Plain
   unfolding role_of
-  lone_role = by.role ∙ some_plain (table_of_point o p) has_table
+  lone_role = ap (role_through o p) not_through ∙ by.role ∙ some_plain (table_of_point o p) has_table
 
   not_bad : has_bad_target o p ≡ false
   unfolding has_bad_target
   not_bad =
-      ap (λ b. b || (is_bad_listed o Taken p (static_targets o p) || is_bad_listed o Fixup p (fixups o p))) by.bad
+      ap (λ b. b || (is_bad_listed o Taken p (static_targets o p) || is_bad_listed o Fixup p (fixups o p))) not_bad_branch
       ∙ (ap (λ places. is_bad_listed o Taken p places || is_bad_listed o Fixup p (fixups o p)) no_targets ∙ ap (is_bad_listed o Fixup p) no_fixups)
 
   not_past_end : (comes_back : Bool) → (is_at_end o p && (goes_on o p && comes_back)) ≡ false
@@ -243,7 +262,7 @@ module _ (o : Coded) (p : Point) (lone : is_lone_jump o p ≡ true) where
 
   its_places : target_places o p ≡ table_of_point o p
   its_places =
-      ap (λ (l : List Place). l ++ (table_of_point o p ++ (listed_places o Taken p (static_targets o p) ++ listed_places o Fixup p (fixups o p)))) by.places
+      ap (λ (l : List Place). l ++ (table_of_point o p ++ (listed_places o Taken p (static_targets o p) ++ listed_places o Fixup p (fixups o p)))) no_branch_places
       ∙ (ap (λ places. table_of_point o p ++ (listed_places o Taken p places ++ listed_places o Fixup p (fixups o p))) no_targets
       ∙ (ap (λ places. table_of_point o p ++ listed_places o Fixup p places) no_fixups ∙ append-nil (table_of_point o p)))
 

@@ -1,5 +1,6 @@
 -- What control does at a straight point.
-use Rattle.std.proofs.Common.{◌≡◌, ℕ, ◌+◌, ◌<◌, Bool, true, false, cond, ◌&&◌, ◌||◌, not, List, [], ◌∷◌, ◌++◌, All, refl, sym, ap, ◌∙◌}
+use Rattle.std.proofs.Common.{◌≡◌, ℕ, ◌+◌, ◌<◌, Bool, true, false, cond, ◌&&◌, ◌||◌, not, List, [], ◌∷◌, ◌++◌, All, Option, None, refl, sym, ap, ◌∙◌}
+use Rattle.std.specs.Prelude.{is_none, is_some}
 use Rattle.std.specs.List.{flat_map, list_any}
 use Rattle.std.proofs.lemmas.Bool.{false≢true}
 use Rattle.std.proofs.lemmas.List.Elements.{All-nil, All-push}
@@ -19,13 +20,15 @@ use Rattle.alternatives.specs.declared.point.Point.{Point}
 use Rattle.flow_defs.specs.Arrival.{after, insn_of_object, is_at_end, is_dead_end}
 use Rattle.flow_defs.specs.Code.{point_at}
 use Rattle.flow_defs.specs.Edges.{branch_edges, branch_edges_by, edges_to, ends_flow, fixups, goes, goes_on, is_some_place, listed_edges, next_edges, static_targets, table_edges, way_edges}
-use Rattle.flow_defs.specs.Marks.{calls_into_function, has_bad_target, has_relocated_offset, has_target_in_site, is_bad_by, is_bad_listed, is_inner_call_by, listed_places, places_by, target_places}
+use Rattle.flow_defs.specs.Marks.{branch_places, calls_into_function, has_bad_target, has_relocated_offset, has_target_in_site, is_bad_branch, is_bad_by, is_bad_listed, is_inner_call_by, listed_places, places_by, target_places}
 use Rattle.flow_defs.specs.Owners.{is_unchecked_point}
 use Rattle.flow_defs.specs.Program.{calls_fentry_by, program_of}
-use Rattle.flow_defs.specs.Roles.{role_by, role_of, table_of_point}
+use Rattle.flow_defs.specs.Roles.{returns_through, role_by, role_of, role_through, table_of_point}
 use Rattle.flow_defs.specs.Sites.{is_into_site}
 use Rattle.return_search.specs.declared.searched_flow.Exit.TheVariants.{Passes}
 use Rattle.return_search.specs.Told.{exit_of}
+use Rattle.control_flow.proofs.Fields.{plain_exit}
+use Rattle.control_flow.proofs.Undirected.{names_nothing, returns_through_nothing, straight_direct}
 use Rattle.control_flow.specs.Listed.{ExitCallsPoint, count_of}
 use Rattle.point_edges.specs.Straight.{IsStraight, is_straight_op}
 use Rattle.control_flow.specs.Transfers.{IsTransfer}
@@ -85,6 +88,19 @@ module _ (o : Coded) (n : ℕ) (is : IsStraight o n) where
   on : GoesOn o p insn.op
   on = straight_op o p insn.op is.straight
 
+  -- it returns through no other code
+  not_through : returns_through o p ≡ None
+  not_through = returns_through_nothing o p (straight_direct o p is.straight)
+
+  no_branch : branch_edges o p ≡ []
+  no_branch = ap (λ (t : Option ℕ). cond (is_some t) [] (branch_edges_by o p insn.op)) not_through ∙ on.branch
+
+  not_bad_branch : is_bad_branch o p ≡ false
+  not_bad_branch = ap (λ (t : Option ℕ). is_none t && is_bad_by o p insn.op) not_through ∙ on.bad
+
+  no_branch_places : branch_places o p ≡ []
+  no_branch_places = ap (λ (t : Option ℕ). cond (is_some t) [] (places_by o p insn.op)) not_through ∙ on.places
+
   unlisted : (is_some_place (static_targets o p) ≡ false) × ((is_some_place (fixups o p) || is_dead_end o p) ≡ false)
   unlisted = neither (is_some_place (static_targets o p)) (is_some_place (fixups o p) || is_dead_end o p) is.unlisted
 
@@ -110,7 +126,7 @@ module _ (o : Coded) (n : ℕ) (is : IsStraight o n) where
   all_edges : next_edges o p ++ (branch_edges o p ++ (listed_edges o Taken p (static_targets o p) ++ (listed_edges o Fixup p (fixups o p) ++ table_edges o p))) ≡ edge (n + 1) Next ∷ []
   all_edges =
       first_only (next_edges o p) (branch_edges o p) (listed_edges o Taken p (static_targets o p)) (listed_edges o Fixup p (fixups o p)) (table_edges o p) (edge (n + 1) Next)
-      next_is on.branch (ap (listed_edges o Taken p) no_targets) (ap (listed_edges o Fixup p) no_fixups) (ap (flat_map (λ place. way_edges o p place (Along Table))) is.tableless)
+      next_is no_branch (ap (listed_edges o Taken p) no_targets) (ap (listed_edges o Fixup p) no_fixups) (ap (flat_map (λ place. way_edges o p place (Along Table))) is.tableless)
 
   -- it has one edge, to the point below, unless it isn't checked
   pub straight_goes : (b : Bool) → is_unchecked_point o p ≡ b → goes o p ≡ cond b [] (edge (n + 1) Next ∷ [])
@@ -119,17 +135,17 @@ module _ (o : Coded) (n : ℕ) (is : IsStraight o n) where
 
   pub straight_role : role_of o p ≡ Plain
   unfolding role_of
-  straight_role = on.role
+  straight_role = ap (role_through o p) not_through ∙ on.role
 
   not_bad : has_bad_target o p ≡ false
   unfolding has_bad_target
   not_bad =
-      ap (λ b. b || (is_bad_listed o Taken p (static_targets o p) || is_bad_listed o Fixup p (fixups o p))) on.bad
+      ap (λ b. b || (is_bad_listed o Taken p (static_targets o p) || is_bad_listed o Fixup p (fixups o p))) not_bad_branch
       ∙ (ap (λ places. is_bad_listed o Taken p places || is_bad_listed o Fixup p (fixups o p)) no_targets ∙ ap (is_bad_listed o Fixup p) no_fixups)
 
   no_target_places : target_places o p ≡ []
   no_target_places =
-      ap (λ (l : List Place). l ++ (table_of_point o p ++ (listed_places o Taken p (static_targets o p) ++ listed_places o Fixup p (fixups o p)))) on.places
+      ap (λ (l : List Place). l ++ (table_of_point o p ++ (listed_places o Taken p (static_targets o p) ++ listed_places o Fixup p (fixups o p)))) no_branch_places
       ∙ (ap (λ (l : List Place). l ++ (listed_places o Taken p (static_targets o p) ++ listed_places o Fixup p (fixups o p))) is.tableless
       ∙ (ap (λ places. listed_places o Taken p places ++ listed_places o Fixup p (fixups o p)) no_targets ∙ ap (listed_places o Fixup p) no_fixups))
 
@@ -149,10 +165,11 @@ module _ (o : Coded) (n : ℕ) (is : IsStraight o n) where
     role = straight_role;
     marks = unmarked (has_bad_target o p) (is_at_end o p && (goes_on o p && true)) (has_target_in_site o p) (calls_into_function o p) (has_relocated_offset o p insn) not_bad not_past_end not_into_site not_into_function is.unrelocated;
     calls_fentry = ap (calls_fentry_by o) straight_role;
+    names = names_nothing o p (straight_direct o p is.straight);
   }
 
-  pub straight_exit : (lists : NameLists) → Passes ≡ exit_of (program_of o lists) (role_of o p)
-  straight_exit lists = ap (exit_of (program_of o lists)) (sym straight_role)
+  pub straight_exit : (lists : NameLists) → Passes ≡ exit_of (program_of o lists) n
+  straight_exit lists = plain_exit o lists n straight_role
 
   pub below_inside : (b : Bool) → All (λ e. e.to < count_of o) (cond b [] (edge (n + 1) Next ∷ []))
   below_inside true = All-nil (λ (e : Edge). e.to < count_of o)

@@ -1,6 +1,6 @@
 -- Where control goes from the points, of one point more.
-use Rattle.std.proofs.Common.{◌≡◌, ℕ, ◌+◌, ◌^◌, ◌<◌, List, [], ◌∷◌, ◌++◌, length, true, sym, ap, ◌∙◌, subst}
-use Rattle.std.specs.Prelude.{slice_index}
+use Rattle.std.proofs.Common.{◌≡◌, ℕ, ◌+◌, ◌^◌, ◌<◌, Bool, List, [], ◌∷◌, ◌++◌, length, true, sym, ap, ◌∙◌, subst}
+use Rattle.std.specs.Prelude.{is_some}
 use Rattle.ot_base.specs.NameLists.{NameLists}
 use Rattle.flow_defs.specs.Coded.{Coded}
 use Rattle.machine_defs.specs.declared.flow.Edge.{Edge}
@@ -8,23 +8,24 @@ use Rattle.machine_defs.specs.declared.flow.EdgeKind.TheVariants.{Table}
 use Rattle.machine_defs.specs.Program.{edge}
 use Rattle.flow_defs.specs.Code.{point_at}
 use Rattle.flow_defs.specs.Edges.{goes}
-use Rattle.flow_defs.specs.Program.{calls_fentry_by, program_of}
+use Rattle.flow_defs.specs.Program.{calls_fentry_by}
 use Rattle.flow_defs.specs.Roles.{role_of}
+use Rattle.flow_defs.specs.Targets.{names_of}
 use Rattle.program_graph.specs.declared.parts.Transfer.{Transfer}
 use Rattle.return_search.specs.declared.searched_flow.Exit.{Exit}
 use Rattle.return_search.specs.declared.searched_flow.Exit.TheVariants.{Passes}
-use Rattle.return_search.specs.Told.{exit_of}
 use Rattle.control_flow.specs.Found.{IsExit, IsKept, IsListed}
 use Rattle.control_flow.specs.Listed.{AreEdges, AreExits, count_of}
 use Rattle.control_flow.specs.Lone.{AreLoneJumps, GoAlike, HasEdgesOf}
 use Rattle.control_flow.specs.Numbers.{AreNumbered, IsNumbered}
-use Rattle.control_flow.specs.Transfers.{IsTransferIfBack}
+use Rattle.control_flow.specs.Transfers.{IsTransfer, IsTransferIfBack}
 use Rattle.control_flow.specs.declared.lone_jumps.LoneJumps.{LoneJumps}
 use Rattle.control_flow.specs.declared.outgoing.Found.{Found}
 use Rattle.control_flow.specs.declared.outgoing.Found.TheVariants.{Alike, Own}
+use Rattle.control_flow.proofs.Fields.{plain_exit}
 use Rattle.control_flow.proofs.Gathered.{edges_more, exits_more, next_alike, next_own, no_edges, no_exits, IsNext}
 use Rattle.control_flow.proofs.GoesOn.{passes_calls_none}
-use Rattle.control_flow.proofs.Numbering.{first_numbered, numbered_more, stays}
+use Rattle.control_flow.proofs.Numbering.{first_numbered, numbered_more}
 
 -- the edges, the exits and the transfers of the first n points
 pub record AreOutgoing (o : Coded) (lists : NameLists) (starts : List ℕ) (edges : List Edge) (jumps : LoneJumps) (exits : List Exit) (transfers : List Transfer) (numbers : List ℕ) (n : ℕ) : Type 0 where
@@ -72,20 +73,24 @@ outgoing_more o lists starts edges after jumps grown exits transfers more number
   are_numbered = numbered_more (IsTransferIfBack o) transfers more numbers n number kept.transfer are.are_numbered kept.is_numbered kept.is_transfer;
 }
 
--- what is kept of a point that goes like an earlier one
-pub kept_alike : (o : Coded) (lists : NameLists) (before after : List Transfer) (numbers : List ℕ) (n r : ℕ) → after ≡ before → AreNumbered (IsTransferIfBack o) before numbers n → r < n → GoAlike o (point_at o n) (point_at o r) → IsKept o lists n before after Passes (slice_index numbers r)
-kept_alike o lists before after numbers n r same are earlier alike =
-    let own = are.have.each r earlier in
+-- what is kept of a point that goes like an earlier one, where its transfer has a number
+pub kept_alike : (o : Coded) (lists : NameLists) (before after : List Transfer) (n r : ℕ) (transfer : Transfer) (number : ℕ) → GoAlike o (point_at o n) (point_at o r) → IsTransferIfBack o n transfer → IsNumbered before after transfer number → IsKept o lists n before after Passes number
+kept_alike o lists before after n r transfer number alike own numbered = record {
+  transfer = transfer;
+  is_exit = record { is = plain_exit o lists n alike.role; known = passes_calls_none o };
+  is_transfer = own;
+  is_numbered = numbered;
+}
+
+-- the transfer of a point that goes like another: the same, with the symbol that it names itself
+pub is_alike_transfer : (o : Coded) (n r : ℕ) (names : Bool) (x : Transfer) → is_some (names_of o (point_at o n)) ≡ names → GoAlike o (point_at o n) (point_at o r) → IsTransfer o r true x → IsTransfer o n true (record { role = x.role; marks = x.marks; calls_fentry = x.calls_fentry; names_symbol = names })
+is_alike_transfer o n r names x named alike is =
     let role : role_of o (point_at o n) ≡ role_of o (point_at o r) = alike.role ∙ sym alike.other_role in
     record {
-      transfer = own.0;
-      is_exit = record { is = ap (exit_of (program_of o lists)) (sym alike.role); known = passes_calls_none o };
-      is_transfer = record {
-        role = role ∙ own.2.role;
-        marks = alike.marks true ∙ own.2.marks;
-        calls_fentry = ap (calls_fentry_by o) role ∙ own.2.calls_fentry;
-      };
-      is_numbered = stays before after own.0 (slice_index numbers r) same own.1;
+      role = role ∙ is.role;
+      marks = alike.marks true ∙ is.marks;
+      calls_fentry = ap (calls_fentry_by o) role ∙ is.calls_fentry;
+      names = named;
     }
 
 pub kept_own : (o : Coded) (lists : NameLists) (before after : List Transfer) (n : ℕ) (exit : Exit) (transfer : Transfer) (number : ℕ) → IsExit o lists n exit → IsTransferIfBack o n transfer → IsNumbered before after transfer number → IsKept o lists n before after exit number

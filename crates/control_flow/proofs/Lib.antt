@@ -11,6 +11,7 @@ pub mod InOrder
 pub mod Steps
 pub mod Gathered
 pub mod Listing
+pub mod Undirected
 pub mod Fields
 pub mod Callees
 pub mod Told

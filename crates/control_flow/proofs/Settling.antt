@@ -17,7 +17,7 @@ abbrev pub within_end : Marks → Marks
 within_end m = record { bad = m.bad; past_end = false; into_site = m.into_site; into_function = m.into_function; relocated = m.relocated }
 
 abbrev pub without_back : Transfer → Transfer
-without_back x = record { role = x.role; marks = within_end x.marks; calls_fentry = x.calls_fentry }
+without_back x = record { role = x.role; marks = within_end x.marks; calls_fentry = x.calls_fentry; names_symbol = x.names_symbol }
 
 never : (a b : Bool) → (a && (b && false)) ≡ false
 never true true = refl
@@ -31,6 +31,7 @@ is_without_back o q x is = record {
       ap (λ (b : Bool). let m : Marks = record { bad = (marks_of o (point_at o q) false).bad; past_end = b; into_site = (marks_of o (point_at o q) false).into_site; into_function = (marks_of o (point_at o q) false).into_function; relocated = (marks_of o (point_at o q) false).relocated } in m) (never (is_at_end o (point_at o q)) (goes_on o (point_at o q)))
       ∙ ap within_end is.marks;
   calls_fentry = is.calls_fentry;
+  names = is.names;
 }
 
 -- the transfers of the points below k are known, and those of the others where their calls come back

@@ -22,34 +22,40 @@ use Rattle.return_search.specs.declared.searched_flow.Exit.{Exit}
 use Rattle.return_search.specs.declared.searched_flow.Exit.TheVariants as exits
 use Rattle.return_search.specs.declared.searched_flow.Flow.{Flow}
 use Rattle.return_search.specs.Shape.{HasShape}
-use Rattle.return_search.specs.Told.{SharesEdges, TellsFlow, callee_at, edges_from, exit_of, exit_at}
+use Rattle.return_search.specs.Told.{SharesEdges, TellsFlow, call_exit, callee_at, edges_from, exit_at, exit_by, exit_of}
 use Rattle.control_flow.specs.Listed.{AreDeadEnds, AreEdges, AreEntered, AreExits, CallsPoint, ExitCallsPoint, IsPointIfAny, count_of}
 use Rattle.control_flow.proofs.Callees.{entry_named, open_named}
+use Rattle.control_flow.proofs.Fields.{plain_exit, role_is}
 use Rattle.control_flow.proofs.Steps.{all_at}
 
-by_name : (b : Bool) (x y : Exit) (entry : ℕ) → (x ≡ exits.Calls entry → ⊥) → (y ≡ exits.Calls entry → ⊥) → cond b x y ≡ exits.Calls entry → ⊥
-by_name true x y entry never back e = never e
-by_name false x y entry never back e = back e
-
-called_by : (b : Bool) (own entry : ℕ) → cond b exits.CallsNever (exits.Calls own) ≡ exits.Calls entry → own ≡ entry
-called_by true own entry e = absurd (let k : ⊥ = cc in k)
-called_by false own entry e = cc
-
 -- only the call of an entry calls one
-exit_calls : (p : Program) (role : Role) (entry : ℕ) → exit_of p role ≡ exits.Calls entry → role ≡ roles.CallIn entry
-exit_calls p roles.Plain entry e = absurd (let k : ⊥ = cc in k)
-exit_calls p (roles.CallIn own) entry e = ap roles.CallIn (called_by (is_listed p (roles.CallIn own)) own entry e)
-exit_calls p (roles.CallEither own sym) entry e = absurd (by_name (is_listed p (roles.CallEither own sym)) exits.CallsNever exits.CallsOut entry (λ h. let k : ⊥ = cc in k) (λ h. let k : ⊥ = cc in k) e)
-exit_calls p (roles.CallOut sym) entry e = absurd (by_name (p.never_returns sym) exits.CallsNever exits.CallsOut entry (λ h. let k : ⊥ = cc in k) (λ h. let k : ⊥ = cc in k) e)
-exit_calls p roles.CallAny entry e = absurd (let k : ⊥ = cc in k)
-exit_calls p roles.Return entry e = absurd (let k : ⊥ = cc in k)
-exit_calls p (roles.JumpOut sym) entry e = absurd (by_name (p.never_returns sym) exits.Passes exits.Leaves entry (λ h. let k : ⊥ = cc in k) (λ h. let k : ⊥ = cc in k) e)
-exit_calls p roles.JumpAny entry e = absurd (let k : ⊥ = cc in k)
-exit_calls p roles.Switch entry e = absurd (let k : ⊥ = cc in k)
+called_by : (marked listed : Bool) (other : Exit) (entry : ℕ) → call_exit marked listed other ≡ exits.Calls entry → other ≡ exits.Calls entry
+called_by true listed other entry e = absurd (let k : ⊥ = cc in k)
+called_by false true other entry e = absurd (let k : ⊥ = cc in k)
+called_by false false other entry e = e
 
--- and where the entry that a role calls is a point, so is that which its exit calls
-pub exit_calls_point : (o : Coded) (p : Program) (role : Role) (exit : Exit) → exit ≡ exit_of p role → CallsPoint o role → ExitCallsPoint o exit
-exit_calls_point o p role exit is known entry e = known.inside entry (exit_calls p role entry (sym is ∙ e))
+jump_calls : (b : Bool) (entry : ℕ) → cond b exits.Passes exits.Leaves ≡ exits.Calls entry → ⊥
+jump_calls true entry e = let k : ⊥ = cc in k
+jump_calls false entry e = let k : ⊥ = cc in k
+
+same_entry : (a b : ℕ) → exits.Calls a ≡ exits.Calls b → a ≡ b
+same_entry a b e = cc
+
+exit_calls : (p : Program) (q : ℕ) (role : Role) (entry : ℕ) → exit_by p q role ≡ exits.Calls entry → role ≡ roles.CallIn entry
+exit_calls p q roles.Plain entry e = absurd (let k : ⊥ = cc in k)
+exit_calls p q (roles.CallIn own) entry e = ap roles.CallIn (same_entry own entry (called_by (p.marked_call q) (is_listed p q) (exits.Calls own) entry e))
+exit_calls p q (roles.CallEither own sym) entry e = absurd (let out : exits.CallsOut ≡ exits.Calls entry = called_by (p.marked_call q) (is_listed p q) exits.CallsOut entry e in let k : ⊥ = cc in k)
+exit_calls p q (roles.CallOut sym) entry e = absurd (let out : exits.CallsOut ≡ exits.Calls entry = called_by (p.marked_call q) (is_listed p q) exits.CallsOut entry e in let k : ⊥ = cc in k)
+exit_calls p q roles.CallAny entry e = absurd (let k : ⊥ = cc in k)
+exit_calls p q roles.Return entry e = absurd (let k : ⊥ = cc in k)
+exit_calls p q (roles.JumpOut sym) entry e = absurd (jump_calls (p.never_returns sym) entry e)
+exit_calls p q roles.JumpAny entry e = absurd (let k : ⊥ = cc in k)
+exit_calls p q roles.Switch entry e = absurd (let k : ⊥ = cc in k)
+
+-- and where the entry that a point's role calls is a point, so is that which its exit calls
+pub exit_calls_point : (o : Coded) (lists : NameLists) (q : ℕ) (role : Role) (exit : Exit) → role ≡ role_of o (point_at o q) → exit ≡ exit_of (program_of o lists) q → CallsPoint o role → ExitCallsPoint o exit
+exit_calls_point o lists q role exit own is known entry e =
+    known.inside entry (own ∙ sym (role_is o lists q) ∙ exit_calls (program_of o lists) q ((program_of o lists).role q) entry (sym is ∙ e))
 
 symmetric : (a b : ℕ) → eqb a b ≡ eqb b a
 symmetric a b = grind (arith, nat_tests)
@@ -76,7 +82,7 @@ module _ (o : Coded) (lists : NameLists) (flow : Flow) (alike : List ℕ)
   pub flow_count : length flow.exits.items ≡ count_of o
   flow_count = leave.long
 
-  exit_is : (q : ℕ) → q < count_of o → exit_of (program_of o lists) (role_of o (point_at o q)) ≡ exit_at flow q
+  exit_is : (q : ℕ) → q < count_of o → exit_of (program_of o lists) q ≡ exit_at flow q
   exit_is q here = sym (leave.each q exits.Passes here)
 
   callees_are : (call entry q : ℕ) → IsPoint (program_of o lists) call → (program_of o lists).role call ≡ roles.CallIn entry → q < count_of o → Contains (entry_points (program_of o lists) entry) q ↔ (callee_at flow q ≡ entry)
@@ -97,7 +103,7 @@ module _ (o : Coded) (lists : NameLists) (flow : Flow) (alike : List ℕ)
           own = sym (edges.each r there is.edges_of.own);
           same = is.edges_of.go_alike.edges;
           tables = is.edges_of.go_alike.tables;
-          passes = sym (exit_is r there) ∙ ap (exit_of (program_of o lists)) is.edges_of.go_alike.other_role;
+          passes = sym (exit_is r there) ∙ sym (plain_exit o lists r is.edges_of.go_alike.other_role);
           listed = is.listed;
         },
       )

@@ -1,11 +1,13 @@
 //! What the points are to returns, by their numbers.
 
 ghost use Rattle.std.specs.Prelude.{◌≡◌, ◌+◌, ◌<◌, false};
-ghost use Rattle.flow_defs.specs.Arrival.{is_dead_end};
+ghost use Rattle.flow_defs.specs.Arrival.{insn_of_object, is_dead_end};
 ghost use Rattle.flow_defs.specs.Code.{point_at};
-ghost use Rattle.flow_defs.specs.Program.{program_of};
-ghost use Rattle.return_search.specs.Told.{exit_of};
-ghost use Rattle.machine_defs.specs.MayReturn.{is_listed, is_listed_function as is_listed_in};
+ghost use Rattle.flow_defs.specs.Program.{is_marked_call as is_a_marked_call, program_of};
+ghost use Rattle.flow_defs.specs.Roles.{role_of};
+ghost use Rattle.return_search.specs.Told.{call_exit, exit_of};
+ghost use Rattle.machine_defs.specs.MayReturn.{is_listed as is_a_listed_call, is_listed_by, is_listed_symbol};
+ghost use Rattle.machine_defs.specs.Program.{is_call_op as is_a_call_op};
 ghost use Rattle.return_search.specs.Flagged.{AreFlagged};
 ghost use Rattle.control_flow.specs.Listed.{CallsPoint, count_of};
 ghost use Rattle.control_flow.specs.Named.{AreLookedUp};
@@ -13,8 +15,9 @@ ghost use Rattle.control_flow.specs.Named.{AreLookedUp};
 use crate::symbol_names::is_listed_name;
 use machine_defs::Role;
 use object_points::PointPlaces;
+use operation_defs::{Insn, Op};
 use ot_base::Lists;
-use point_edges::FlowPoints;
+use point_edges::{FlowPoints, names};
 use return_search::Exit;
 
 /// How many points there are.
@@ -28,70 +31,167 @@ pub(crate) fn count_points(places: &PointPlaces<'_, '_, '_>) -> u32
 fn is_listed_function(
     places: &PointPlaces<'_, '_, '_>,
     lists: &Lists,
-    names: &mut Vec<Option<bool>>,
+    known: &mut Vec<Option<bool>>,
     n: u32,
 ) -> bool
     requires point { n < count_of places.now }
-    requires names { AreLookedUp places.now.elf lists.now names.old.items }
-    ensures is { let p = program_of places.now lists.now in result ≡ is_listed_in p (p.function n) }
-    ensures names { AreLookedUp places.now.elf lists.now names.new.items }
+    requires known { AreLookedUp places.now.elf lists.now known.old.items }
+    ensures is { let p = program_of places.now lists.now in result ≡ is_listed_symbol p (p.function n) }
+    ensures known { AreLookedUp places.now.elf lists.now known.new.items }
 {
     match places.function(n) {
-        Some(sym) => is_listed_name(places.linked().object(), lists, names, sym),
+        Some(sym) => is_listed_name(places.linked().object(), lists, known, sym),
         None => false,
     }
 }
 
-/// Whether a call with this role is listed: the name of its symbol, or of the function whose start is its entry, is listed as
-/// one that never returns.
+/// Whether the symbol by which a call names what it calls is listed as one that never returns.
+fn is_listed_by_name(
+    places: &PointPlaces<'_, '_, '_>,
+    lists: &Lists,
+    known: &mut Vec<Option<bool>>,
+    n: u32,
+) -> bool
+    requires point { n < count_of places.now }
+    requires known { AreLookedUp places.now.elf lists.now known.old.items }
+    ensures is { let p = program_of places.now lists.now in result ≡ is_listed_symbol p (p.names n) }
+    ensures known { AreLookedUp places.now.elf lists.now known.new.items }
+{
+    match names(places, n) {
+        Some(sym) => is_listed_name(places.linked().object(), lists, known, sym),
+        None => false,
+    }
+}
+
+/// Whether a call of an entry is listed: by the function whose start that is, or where it is code of no function, by the symbol
+/// by which the call names it.
+fn is_listed_entry(
+    places: &PointPlaces<'_, '_, '_>,
+    lists: &Lists,
+    known: &mut Vec<Option<bool>>,
+    n: u32,
+    entry: u32,
+) -> bool
+    requires point { n < count_of places.now }
+    requires entry { entry < count_of places.now }
+    requires known { AreLookedUp places.now.elf lists.now known.old.items }
+    ensures is { let p = program_of places.now lists.now in result ≡ is_listed_by p (p.names n) (Role.CallIn entry) }
+    ensures known { AreLookedUp places.now.elf lists.now known.new.items }
+{
+    if places.owner(entry).is_some() {
+        return is_listed_function(places, lists, known, entry);
+    }
+    is_listed_function(places, lists, known, entry) || is_listed_by_name(places, lists, known, n)
+}
+
+/// Whether a call with this role is told by a listed name: that of its symbol, or of the function whose start is its entry.
 fn is_listed_call(
     places: &PointPlaces<'_, '_, '_>,
     lists: &Lists,
-    names: &mut Vec<Option<bool>>,
+    known: &mut Vec<Option<bool>>,
+    n: u32,
     role: Role,
 ) -> bool
+    requires point { n < count_of places.now }
     requires role { CallsPoint places.now role }
-    requires names { AreLookedUp places.now.elf lists.now names.old.items }
-    ensures is { result ≡ is_listed (program_of places.now lists.now) role }
-    ensures names { AreLookedUp places.now.elf lists.now names.new.items }
+    requires known { AreLookedUp places.now.elf lists.now known.old.items }
+    ensures is { let p = program_of places.now lists.now in result ≡ is_listed_by p (p.names n) role }
+    ensures known { AreLookedUp places.now.elf lists.now known.new.items }
 {
     let object = places.linked().object();
     match role {
-        Role::CallIn { entry } => is_listed_function(places, lists, names, entry),
+        Role::CallIn { entry } => is_listed_entry(places, lists, known, n, entry),
         Role::CallEither { entry, sym } => {
-            is_listed_name(object, lists, names, sym)
-                || is_listed_function(places, lists, names, entry)
+            is_listed_name(object, lists, known, sym)
+                || is_listed_function(places, lists, known, entry)
         }
-        Role::CallOut { sym } => is_listed_name(object, lists, names, sym),
+        Role::CallOut { sym } => is_listed_name(object, lists, known, sym),
         _ => false,
     }
 }
 
-/// What a point with this role is to a return.
-pub(crate) fn exit(
+/// Whether an operation is a call, direct or not.
+fn is_call_op(op: Op) -> bool
+    ensures { result ≡ is_a_call_op op }
+{
+    matches!(op, Op::Call { .. } | Op::CallInd)
+}
+
+/// Whether a point with this instruction is a call that ends at a place of `.discard.reachable`.
+fn is_marked_call(points: &FlowPoints<'_, '_, '_>, n: u32, insn: Insn) -> bool
+    requires point { n < count_of points.now }
+    requires insn { insn ≡ insn_of_object points.now (point_at points.now n) }
+    ensures { result ≡ is_a_marked_call points.now (point_at points.now n) }
+{
+    is_call_op(insn.op) && points.arrivals().ends_at_reachable(n)
+}
+
+/// Whether a point with this role, of which it is told whether it is a marked call, is a listed call.
+fn is_listed(
     places: &PointPlaces<'_, '_, '_>,
     lists: &Lists,
-    names: &mut Vec<Option<bool>>,
+    known: &mut Vec<Option<bool>>,
+    n: u32,
+    role: Role,
+    is_marked: bool,
+) -> bool
+    requires point { n < count_of places.now }
+    requires role { role ≡ role_of places.now (point_at places.now n) }
+    requires calls { CallsPoint places.now role }
+    requires marked { is_marked ≡ is_a_marked_call places.now (point_at places.now n) }
+    requires known { AreLookedUp places.now.elf lists.now known.old.items }
+    ensures is { result ≡ is_a_listed_call (program_of places.now lists.now) n }
+    ensures known { AreLookedUp places.now.elf lists.now known.new.items }
+{
+    if is_marked {
+        return false;
+    }
+    is_listed_call(places, lists, known, n, role)
+}
+
+/// What a call of an entry is to a return, which isn't listed, and of which it is told whether it is marked.
+fn entry_exit(entry: u32, is_marked: bool) -> Exit
+    ensures { result ≡ call_exit is_marked false (Exit.Calls entry) }
+{
+    if is_marked {
+        Exit::CallsOut
+    } else {
+        Exit::Calls { entry }
+    }
+}
+
+/// What a point with this instruction and this role is to a return.
+pub(crate) fn exit(
+    points: &FlowPoints<'_, '_, '_>,
+    lists: &Lists,
+    known: &mut Vec<Option<bool>>,
+    n: u32,
+    insn: Insn,
     role: Role,
 ) -> Exit
-    requires role { CallsPoint places.now role }
-    requires names { AreLookedUp places.now.elf lists.now names.old.items }
-    ensures is { result ≡ exit_of (program_of places.now lists.now) role }
-    ensures names { AreLookedUp places.now.elf lists.now names.new.items }
+    requires point { n < count_of points.now }
+    requires insn { insn ≡ insn_of_object points.now (point_at points.now n) }
+    requires role { role ≡ role_of points.now (point_at points.now n) }
+    requires calls { CallsPoint points.now role }
+    requires known { AreLookedUp points.now.elf lists.now known.old.items }
+    ensures is { result ≡ exit_of (program_of points.now lists.now) n }
+    ensures known { AreLookedUp points.now.elf lists.now known.new.items }
 {
-    if is_listed_call(places, lists, names, role) {
+    let places = points.places();
+    let is_marked = is_marked_call(points, n, insn);
+    if is_listed(places, lists, known, n, role, is_marked) {
         return Exit::CallsNever;
     }
     match role {
         Role::Return | Role::JumpAny => Exit::Leaves,
         Role::JumpOut { sym } => {
-            if is_listed_name(places.linked().object(), lists, names, sym) {
+            if is_listed_name(places.linked().object(), lists, known, sym) {
                 Exit::Passes
             } else {
                 Exit::Leaves
             }
         }
-        Role::CallIn { entry } => Exit::Calls { entry },
+        Role::CallIn { entry } => entry_exit(entry, is_marked),
         Role::CallEither { .. } | Role::CallOut { .. } | Role::CallAny => Exit::CallsOut,
         Role::Plain | Role::Switch => Exit::Passes,
     }

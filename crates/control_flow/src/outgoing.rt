@@ -8,7 +8,7 @@ ghost use Rattle.flow_defs.specs.Arrival.{insn_of_object, is_dead_end};
 ghost use Rattle.flow_defs.specs.Code.{point_at};
 ghost use Rattle.flow_defs.specs.Edges.{goes};
 ghost use Rattle.flow_defs.specs.Program.{program_of};
-ghost use Rattle.flow_defs.specs.Roles.{role_of};
+ghost use Rattle.flow_defs.specs.Roles.{returns_through, role_of};
 ghost use Rattle.flow_defs.specs.Targets.{destination_of};
 ghost use Rattle.point_edges.specs.Jumps.{direct_way};
 ghost use Rattle.return_search.specs.Flagged.{AreFlagged};
@@ -24,7 +24,7 @@ ghost use Rattle.control_flow.specs.Transfers.{IsTransfer, IsTransferIfBack};
 use crate::listed::{count_points, exit, flag_dead_end};
 use crate::lone_jumps::LoneJumps;
 use crate::symbol_names::no_names;
-use crate::transfers::{TransferList, USUAL, number_transfer, transfer_of};
+use crate::transfers::{TransferList, USUAL, alike_transfer, number_transfer, transfer_of};
 use elf_objects::Object;
 use machine_defs::{Edge, EdgeKind};
 use operation_defs::Insn;
@@ -103,6 +103,7 @@ fn look_around(
     requires insn { insn ≡ insn_of_object points.now (point_at points.now n) }
     requires to { branch.to ≡ destination_of points.now (point_at points.now n) }
     requires way { branch.way ≡ direct_way points.now (point_at points.now n) insn.op }
+    requires through { branch.through ≡ returns_through points.now (point_at points.now n) }
     ensures listed { IfOk result (λ found. (alike : List ℕ) → IsListed points.now n edges.old.items edges.new.items alike alike found) }
     ensures found { IfOk result (IsFound points.now lists.now n) }
     ensures names { OnOk result (AreLookedUp points.now.elf lists.now names.new.items) }
@@ -110,7 +111,7 @@ fn look_around(
     let role = role(points, n, insn, branch);
     push_edges(alloc, points, n, insn, branch, edges)?;
     Ok(Found::Own {
-        exit: exit(points.places(), lists, names, role),
+        exit: exit(points, lists, names, n, insn, role),
         transfer: transfer_of(points, n, insn, branch, role),
     })
 }
@@ -135,7 +136,7 @@ fn look_for_jumps(
     ensures names { OnOk result (AreLookedUp points.now.elf lists.now names.new.items) }
 {
     let insn = points.arrivals().insn(alloc, n)?;
-    let branch = branch_at(points.places(), n, insn);
+    let branch = branch_at(points, n, insn);
     let Some(first) = jumps.note(points, n, insn, branch.to)? else {
         return look_around(alloc, points, lists, n, insn, branch, edges, names);
     };
@@ -174,10 +175,13 @@ fn keep(
             exit: StoredExit::new(exit),
             number: number_transfer(transfers, transfer)?,
         }),
-        Found::Alike { first } => Ok(Kept {
-            exit: StoredExit::passing(),
-            number: numbers[first as usize],
-        }),
+        Found::Alike { first } => {
+            let transfer = alike_transfer(points, n, transfers[numbers[first as usize] as usize]);
+            Ok(Kept {
+                exit: StoredExit::passing(),
+                number: number_transfer(transfers, transfer)?,
+            })
+        }
     }
 }
 

@@ -4,11 +4,12 @@ ghost use Rattle.std.specs.Prelude.{◌≡◌, ◌<◌, ◌^◌, ℕ, IfOk, fals
 ghost use Rattle.flow_defs.specs.Coded.{Coded};
 ghost use Rattle.flow_defs.specs.Arrival.{insn_of_object};
 ghost use Rattle.flow_defs.specs.Code.{point_at};
-ghost use Rattle.flow_defs.specs.Roles.{role_of};
+ghost use Rattle.flow_defs.specs.Roles.{returns_through, role_of};
 ghost use Rattle.flow_defs.specs.Targets.{destination_of};
 ghost use Rattle.return_search.specs.Shape.{HaveShape};
 ghost use Rattle.point_edges.specs.Jumps.{direct_way};
 ghost use Rattle.control_flow.specs.Listed.{CallsPoint, count_of};
+ghost use Rattle.control_flow.specs.Lone.{GoAlike};
 ghost use Rattle.control_flow.specs.Numbers.{AreNumbered, HaveNumbers, IsNumbered};
 ghost use Rattle.control_flow.specs.Transfers.{IsTransfer, IsTransferIfBack, IsTransferOf};
 
@@ -17,11 +18,11 @@ use machine_defs::{Marks, Role};
 use object_points::calls_fentry;
 use operation_defs::Insn;
 use ot_base::NoMemory;
-use point_edges::{Branch, FlowPoints, marks};
+use point_edges::{Branch, FlowPoints, marks, names};
 use program_graph::Transfer;
 use return_search::Returns;
 
-/// That of most points: they neither call nor leave their function, and nothing is wrong with where they go.
+/// That of most points: they neither call nor leave their function, nothing is wrong with where they go, and no symbol names that.
 pub(crate) const USUAL: Transfer = Transfer {
     role: Role::Plain,
     marks: Marks {
@@ -32,6 +33,7 @@ pub(crate) const USUAL: Transfer = Transfer {
         relocated: false,
     },
     calls_fentry: false,
+    names_symbol: false,
 };
 
 /// That of a point with this instruction and this role, whose direct call or branch goes there, where a call there can come
@@ -47,6 +49,7 @@ pub(crate) fn transfer_of(
     requires insn { insn ≡ insn_of_object points.now (point_at points.now n) }
     requires to { branch.to ≡ destination_of points.now (point_at points.now n) }
     requires way { branch.way ≡ direct_way points.now (point_at points.now n) insn.op }
+    requires through { branch.through ≡ returns_through points.now (point_at points.now n) }
     requires role { role ≡ role_of points.now (point_at points.now n) }
     requires known { CallsPoint points.now role }
     ensures { IsTransfer points.now n true result }
@@ -55,6 +58,22 @@ pub(crate) fn transfer_of(
         role,
         marks: marks(points, n, insn, branch, true),
         calls_fentry: calls_fentry(points.places(), role),
+        names_symbol: names(points.places(), n).is_some(),
+    }
+}
+
+/// That of a point that goes like another with this transfer: but for the symbol that names where it goes, the same.
+pub(crate) fn alike_transfer(
+    points: &FlowPoints<'_, '_, '_>,
+    n: u32,
+    transfer: Transfer,
+) -> Transfer
+    requires { n < count_of points.now }
+    ensures { (r : ℕ) → GoAlike points.now (point_at points.now n) (point_at points.now r) → IsTransfer points.now r true transfer → IsTransfer points.now n true result }
+{
+    Transfer {
+        names_symbol: names(points.places(), n).is_some(),
+        ..transfer
     }
 }
 
