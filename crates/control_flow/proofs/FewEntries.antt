@@ -1,7 +1,10 @@
 -- Each entry of the special sections of an object without a fault in them has a relocation of its own.
-use Rattle.std.proofs.Common.{◌≡◌, ℕ, suc, ◌+◌, ◌*◌, ◌^◌, ◌<◌, ◌≤◌, ◌||◌, Bool, true, false, cond, List, [], ◌∷◌, length, filter, None, refl, arith}
+use Rattle.std.proofs.Common.{◌≡◌, ℕ, suc, ◌+◌, ◌*◌, ◌^◌, ◌<◌, ◌≤◌, ◌||◌, Bool, true, false, cond, List, [], ◌∷◌, length, filter, Option, Some, None, refl, arith}
+use Rattle.std.specs.Option.{option_or}
 use Rattle.std.proofs.lemmas.List.FromFn.{length-map-range_with_len}
 use Rattle.ot_base.specs.declared.place.Place.{Place}
+use Rattle.ot_base.specs.NameLists.{NameLists}
+use Rattle.symbols_relocs.specs.NamedCode.{is_in_named_code}
 use Rattle.elf_objects.specs.Contents.{relocs_at}
 use Rattle.elf_objects.specs.Elf.{Elf}
 use Rattle.elf_objects.specs.Object.{IsObject}
@@ -38,8 +41,12 @@ branches_each o = by_offset tables.branches o (λ e. 16 * e) (λ n. omega arith)
 fixes_each : (o : Elf) → HasOneEach tables.fixes o
 fixes_each o = by_offset tables.fixes o (λ e. 12 * e) (λ n. omega arith) (λ sec e none. left_false (lacks_reloc o (field_at sec (12 * e))) (lacks_reloc o (field_at sec (12 * e + 4))) (first_false _ _ _ none))
 
-hints_each : (o : Elf) → HasOneEach hint.hints o
-hints_each o = by_offset hint.hints o (λ e. 12 * e) (λ n. omega arith) (λ sec e none. first_false _ _ _ none)
+no_reason : {X : Type 0} (one other : Option X) → option_or one other ≡ None → one ≡ None
+no_reason None other none = refl
+no_reason (Some x) other none = let bad : ⊥ = cc in absurd bad
+
+hints_each : (o : Elf) (loose : Place → Bool) → HasOneEach (hint.hints loose) o
+hints_each o loose = by_offset (hint.hints loose) o (λ e. 12 * e) (λ n. omega arith) (λ sec e none. first_false _ _ _ (no_reason _ _ none))
 
 -- a list of places has one for each relocation
 list_each : (kind : EntryKind Place) (o : Elf) → ((sec : ℕ) → kind.count o sec ≡ length (relocs_at o sec)) → HasOneEach kind o
@@ -56,12 +63,13 @@ all_kept p (x ∷ xs) =
     elim (p x) as (λ b. length (cond b (x ∷ filter p xs) (filter p xs)) ≤ suc (length xs)) [ true ↦ omega arith | false ↦ omega arith ]
 
 -- so their numbers have 32 bits
-pub numbers_fit : (o : Elf) → IsObject o.bytes o → special_faults o ≡ [] → length o.bytes < 2 ^ 32 → AreFew (special_of o)
-numbers_fit o is none short =
+pub numbers_fit : (o : Elf) (names : NameLists) → IsObject o.bytes o → special_faults o names ≡ [] → length o.bytes < 2 ^ 32 → AreFew (special_of o)
+numbers_fit o names is none short =
+    let loose : Place → Bool = is_in_named_code o names.loose in
     let of_branches = right_none (faults tables.alternatives o) _ none in
     let of_fixes = right_none (faults tables.branches o) _ of_branches in
     let of_hints = right_none (faults tables.fixes o) _ of_fixes in
-    let of_reachable = right_none (faults hint.hints o) _ of_hints in
+    let of_reachable = right_none (faults (hint.hints loose) o) _ of_hints in
     let of_unreachable = right_none (faults lists.after_reachable o) _ of_reachable in
     let of_unchecked = right_none (faults lists.after_unreachable o) _ of_unreachable in
     let of_safe = right_none (faults lists.unchecked o) _ of_unchecked in
@@ -70,7 +78,7 @@ numbers_fit o is none short =
     record {
       branches = omega (arith, short, few_each tables.branches o is (branches_each o) (left_none (faults tables.branches o) _ of_branches));
       fixes = omega (arith, short, few_each tables.fixes o is (fixes_each o) (left_none (faults tables.fixes o) _ of_fixes));
-      hints = omega (arith, short, few_each hint.hints o is (hints_each o) (left_none (faults hint.hints o) _ of_hints));
+      hints = omega (arith, short, few_each (hint.hints loose) o is (hints_each o loose) (left_none (faults (hint.hints loose) o) _ of_hints));
       after_reachable = listed lists.after_reachable (λ sec. refl) (left_none (faults lists.after_reachable o) _ of_reachable);
       after_unreachable = listed lists.after_unreachable (λ sec. refl) (left_none (faults lists.after_unreachable o) _ of_unreachable);
       unchecked = omega (arith, all_kept (is_text_place o BelowEnd) (entries lists.unchecked o), listed lists.unchecked (λ sec. refl) (left_none (faults lists.unchecked o) _ of_unchecked));
@@ -79,6 +87,6 @@ numbers_fit o is none short =
     }
 
 -- of static branches there are no more than bytes
-pub branches_fit : (o : Elf) → IsObject o.bytes o → special_faults o ≡ [] → length (special_of o).branches ≤ length o.bytes
-branches_fit o is none =
+pub branches_fit : (o : Elf) (names : NameLists) → IsObject o.bytes o → special_faults o names ≡ [] → length (special_of o).branches ≤ length o.bytes
+branches_fit o names is none =
     omega (arith, few_each tables.branches o is (branches_each o) (left_none (faults tables.branches o) _ (right_none (faults tables.alternatives o) _ none)))

@@ -29,3 +29,4 @@ pub mod Alike
 pub mod Noted
 pub mod Whole
 pub mod UsualKinds
+mod SwitchedInsns

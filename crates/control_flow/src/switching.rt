@@ -6,7 +6,7 @@ ghost use Rattle.flow_defs.specs.Code.{point_at};
 ghost use Rattle.flow_defs.specs.Switching.{insn_by, is_rex_w as is_a_rex_w, is_rsp_and_memory as is_of_rsp_and_memory, loads_rsp as loads_an_rsp, loads_stack_of};
 ghost use Rattle.flow_defs.specs.TableRegisters.{bytes_from as bytes_from_place};
 ghost use Rattle.control_flow.specs.Listed.{count_of};
-ghost use Rattle.control_flow.specs.Switched.{AreSwitching};
+ghost use Rattle.control_flow.specs.Switched.{AreSwitching, is_other as is_an_other};
 
 use elf_objects::Object;
 use object_points::PointPlaces;
@@ -84,6 +84,13 @@ fn loads_stack(places: &PointPlaces<'_, '_, '_>, switching: SwitchingCode<'_>, n
     loads_rsp(bytes_from(places.linked().object(), places.point(n).place))
 }
 
+/// Whether an operation is an `SpOther`.
+fn is_other(op: Op) -> bool
+    ensures { result ≡ is_an_other op }
+{
+    matches!(op, Op::SpOther)
+}
+
 /// The instruction of a point, as the program has it.
 pub(crate) fn insn(
     alloc: Global,
@@ -97,9 +104,12 @@ pub(crate) fn insn(
 {
     let insn = points.arrivals().insn(alloc, n)?;
     let decoded = points.places().decoded_insn(n);
-    if matches!(decoded.op, Op::SpOther) && loads_stack(points.places(), switching, n) {
-        let op = Op::BpOther;
-        return Ok(Insn { op, ..insn });
+    if !is_other(decoded.op) {
+        return Ok(insn);
     }
-    Ok(insn)
+    if !loads_stack(points.places(), switching, n) {
+        return Ok(insn);
+    }
+    let op = Op::BpOther;
+    Ok(Insn { op, ..insn })
 }

@@ -22,7 +22,7 @@ prove-unreachable-requires c =
     let own : c.object.result.now ≡ o.elf = c.object.ensures ∙ ap (λ (e : Coded). e.elf) c.linked-linked.ensures in
     let is : IsObject o.elf.bytes o.elf = subst (λ (e : Elf). IsObject e.bytes e) own (subst (λ (b : List ℕ). IsObject b c.object.result.now) c.bytes-bytes.ensures.value c.bytes-bytes.ensures.object) in
     let size : length c.bytes-bytes.result.now ≡ length o.elf.bytes = ap length (c.bytes-bytes.ensures.value ∙ ap (λ (e : Elf). e.bytes) own) in
-    omega (arith, c.if-prove.true, size, branches_fit o.elf is c.find_bad_start.ensures.linked.before.before.special, ap length (c.branches.ensures ∙ ap (λ (s : SpecialEntries). s.branches) (c.special-special.ensures ∙ ap (λ (e : Coded). special_of e.elf) c.linked-linked.ensures)))
+    omega (arith, c.if-prove.true, size, branches_fit o.elf c.find_bad_start.ensures.linked.0 is c.find_bad_start.ensures.linked.1.before.before.special, ap length (c.branches.ensures ∙ ap (λ (s : SpecialEntries). s.branches) (c.special-special.ensures ∙ ap (λ (e : Coded). special_of e.elf) c.linked-linked.ensures)))
 
 pub find_bad_place-requires : goal.find_bad_place-requires
 find_bad_place-requires c =
@@ -30,7 +30,7 @@ find_bad_place-requires c =
     let own : c.object.result.now ≡ o.elf = c.object.ensures ∙ ap (λ (e : Coded). e.elf) c.linked-linked.ensures in
     let is : IsObject o.elf.bytes o.elf = subst (λ (e : Elf). IsObject e.bytes e) own (subst (λ (b : List ℕ). IsObject b c.object.result.now) c.bytes-bytes.ensures.value c.bytes-bytes.ensures.object) in
     let size : length c.bytes-bytes.result.now ≡ length o.elf.bytes = ap length (c.bytes-bytes.ensures.value ∙ ap (λ (e : Elf). e.bytes) own) in
-    let few : AreFew (special_of o.elf) = numbers_fit o.elf is c.find_bad_start.ensures.linked.before.before.special (omega (arith, c.bytes-bytes.ensures.short, size)) in
+    let few : AreFew (special_of o.elf) = numbers_fit o.elf c.find_bad_start.ensures.linked.0 is c.find_bad_start.ensures.linked.1.before.before.special (omega (arith, c.bytes-bytes.ensures.short, size)) in
     few
 
 pub returns-in-Some-find_bad_place-clause-err : goal.returns-in-Some-find_bad_place-clause-err
@@ -43,7 +43,7 @@ overflow_cast-result c =
     let own : c.object.result.now ≡ o.elf = c.object.ensures ∙ ap (λ (e : Coded). e.elf) c.linked-linked.ensures in
     let is : IsObject o.elf.bytes o.elf = subst (λ (e : Elf). IsObject e.bytes e) own (subst (λ (b : List ℕ). IsObject b c.object.result.now) c.bytes-bytes.ensures.value c.bytes-bytes.ensures.object) in
     let size : length c.bytes-bytes.result.now ≡ length o.elf.bytes = ap length (c.bytes-bytes.ensures.value ∙ ap (λ (e : Elf). e.bytes) own) in
-    let few : AreFew (special_of o.elf) = numbers_fit o.elf is c.find_bad_start.ensures.linked.before.before.special (omega (arith, c.bytes-bytes.ensures.short, size)) in
+    let few : AreFew (special_of o.elf) = numbers_fit o.elf c.find_bad_start.ensures.linked.0 is c.find_bad_start.ensures.linked.1.before.before.special (omega (arith, c.bytes-bytes.ensures.short, size)) in
     omega (arith, number_fits (λ (b : BranchEntry). is_no_branch o b.code) (special_of o.elf).branches c.branches-2.result.now c.branch_off_site.result c.in-Some-branch_off_site.entry c.branch_off_site.ensures c.in-Some-branch_off_site.is (c.branches-2.ensures ∙ ap (λ (s : SpecialEntries). s.branches) (c.special-special.ensures ∙ ap (λ (e : Coded). special_of e.elf) c.linked-linked.ensures)) few.branches)
 
 pub returns-in-Some-branch_off_site-clause-err : goal.returns-in-Some-branch_off_site-clause-err
@@ -58,7 +58,7 @@ overflow_cast-result-in-Some-place_off_call c =
     let own : c.object.result.now ≡ o.elf = c.object.ensures ∙ ap (λ (e : Coded). e.elf) c.linked-linked.ensures in
     let is : IsObject o.elf.bytes o.elf = subst (λ (e : Elf). IsObject e.bytes e) own (subst (λ (b : List ℕ). IsObject b c.object.result.now) c.bytes-bytes.ensures.value c.bytes-bytes.ensures.object) in
     let size : length c.bytes-bytes.result.now ≡ length o.elf.bytes = ap length (c.bytes-bytes.ensures.value ∙ ap (λ (e : Elf). e.bytes) own) in
-    let few : AreFew (special_of o.elf) = numbers_fit o.elf is c.find_bad_start.ensures.linked.before.before.special (omega (arith, c.bytes-bytes.ensures.short, size)) in
+    let few : AreFew (special_of o.elf) = numbers_fit o.elf c.find_bad_start.ensures.linked.0 is c.find_bad_start.ensures.linked.1.before.before.special (omega (arith, c.bytes-bytes.ensures.short, size)) in
     omega (arith, number_fits (is_no_call o) (special_of o.elf).intra_calls c.intra_calls.result.now c.place_off_call.result c.in-Some-place_off_call.entry c.place_off_call.ensures c.in-Some-place_off_call.is (c.intra_calls.ensures ∙ ap (λ (s : SpecialEntries). s.intra_calls) (c.special-special.ensures ∙ ap (λ (e : Coded). special_of e.elf) c.linked-linked.ensures)) few.intra_calls)
 
 pub returns-in-Some-place_off_call-clause-err : goal.returns-in-Some-place_off_call-clause-err
@@ -74,7 +74,7 @@ overflow_cast-result-in-Some-place_off_function c =
     let own : c.object.result.now ≡ o.elf = c.object.ensures ∙ ap (λ (e : Coded). e.elf) c.linked-linked.ensures in
     let is : IsObject o.elf.bytes o.elf = subst (λ (e : Elf). IsObject e.bytes e) own (subst (λ (b : List ℕ). IsObject b c.object.result.now) c.bytes-bytes.ensures.value c.bytes-bytes.ensures.object) in
     let size : length c.bytes-bytes.result.now ≡ length o.elf.bytes = ap length (c.bytes-bytes.ensures.value ∙ ap (λ (e : Elf). e.bytes) own) in
-    let few : AreFew (special_of o.elf) = numbers_fit o.elf is c.find_bad_start.ensures.linked.before.before.special (omega (arith, c.bytes-bytes.ensures.short, size)) in
+    let few : AreFew (special_of o.elf) = numbers_fit o.elf c.find_bad_start.ensures.linked.0 is c.find_bad_start.ensures.linked.1.before.before.special (omega (arith, c.bytes-bytes.ensures.short, size)) in
     omega (arith, number_fits (is_no_function o) (special_of o.elf).unchecked c.unchecked.result.now c.place_off_function.result c.in-Some-place_off_function.entry c.place_off_function.ensures c.in-Some-place_off_function.is (c.unchecked.ensures ∙ ap (λ (s : SpecialEntries). s.unchecked) (c.special-special.ensures ∙ ap (λ (e : Coded). special_of e.elf) c.linked-linked.ensures)) few.unchecked)
 
 pub returns-in-Some-place_off_function-clause-err : goal.returns-in-Some-place_off_function-clause-err
