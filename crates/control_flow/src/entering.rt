@@ -80,11 +80,11 @@ fn list_starts(alloc: Global, places: &PointPlaces<'_, '_, '_>) -> Result<Vec<Pl
     let linked = places.linked();
     let functions = linked.index().functions();
     let entries = linked.special().alternatives();
-    let mut starts = functions
+    let mut starts: Vec<Place> = functions
         .iter()
         .map(|function| function.start)
         .collect(alloc)?;
-    let originals = entries.iter().map(|entry| entry.original).collect(alloc)?;
+    let originals: Vec<Place> = entries.iter().map(|entry| entry.original).collect(alloc)?;
     starts.extend_from_slice(&originals)?;
     Ok(starts)
 }
