@@ -48,7 +48,7 @@ fn kind_of(
     requires switching { AreSwitching points.now switching.lists.now switching.extents.now }
     requires point { n < count_of points.now }
     requires entered { (lists : NameLists) → is_at_entry (program_of points.now lists) n ≡ told.is_entered }
-    ensures { IfOk result (IsKind points.now switching.lists.now n told.may_return rare told.transfer) }
+    ensures { IfOk result (IsKind points.now switching.entry.lists.now n told.may_return rare told.transfer) }
 {
     let insn = insn(alloc, points, switching, n)?;
     Ok(PointKind {
@@ -109,7 +109,7 @@ fn look_up_kind(
     requires some { 0 < length shared.old.rares.rares.items }
     requires few { length shared.old.rares.rares.items < 2 ^ 32 }
     requires few_hinted { length shared.old.rares.hinted.items < 2 ^ 32 }
-    ensures kind { IfOk result (HasKind points.now switching.lists.now hints.now.restores n told.may_return told.transfer shared.old shared.new) }
+    ensures kind { IfOk result (HasKind points.now switching.entry.lists.now hints.now.restores n told.may_return told.transfer shared.old shared.new) }
     ensures stay { shared.new.kinds.stay.items ≡ shared.old.kinds.stay.items }
 {
     let rare = shared.rares.add(points, hints, n)?;
@@ -139,7 +139,7 @@ fn number_kind(
     requires some { 0 < length shared.old.rares.rares.items }
     requires few { length shared.old.rares.rares.items < 2 ^ 32 }
     requires few_hinted { length shared.old.rares.hinted.items < 2 ^ 32 }
-    ensures kind { IfOk result (HasKind points.now switching.lists.now hints.now.restores n told.may_return told.transfer shared.old shared.new) }
+    ensures kind { IfOk result (HasKind points.now switching.entry.lists.now hints.now.restores n told.may_return told.transfer shared.old shared.new) }
     ensures stay { shared.new.kinds.stay.items ≡ shared.old.kinds.stay.items }
 {
     if is_told_usual(told) && !points.arrivals().is_dead_end(n) && is_usual(points, n) {

@@ -76,7 +76,7 @@ fn loads_rsp(bytes: &[u8]) -> bool
 fn loads_stack(places: &PointPlaces<'_, '_, '_>, switching: SwitchingCode<'_>, n: u32) -> bool
     requires switching { AreSwitching places.now switching.lists.now switching.extents.now }
     requires point { n < count_of places.now }
-    ensures { result ≡ loads_stack_of places.now switching.lists.now (point_at places.now n) }
+    ensures { result ≡ loads_stack_of places.now switching.entry.lists.now (point_at places.now n) }
 {
     if !switching.extents.contains(places.address(n)) {
         return false;
@@ -100,7 +100,7 @@ pub(crate) fn insn(
 ) -> Result<Insn, NoMemory>
     requires switching { AreSwitching points.now switching.lists.now switching.extents.now }
     requires point { n < count_of points.now }
-    ensures { IfOk result (λ insn. insn ≡ insn_by points.now switching.lists.now (point_at points.now n)) }
+    ensures { IfOk result (λ insn. insn ≡ insn_by points.now switching.entry.lists.now (point_at points.now n)) }
 {
     let insn = points.arrivals().insn(alloc, n)?;
     let decoded = points.places().decoded_insn(n);
