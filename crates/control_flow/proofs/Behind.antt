@@ -12,7 +12,7 @@ use Rattle.alternatives.specs.declared.point.Point.{Point}
 use Rattle.alternatives.specs.Texts.{behind}
 use Rattle.table_law.proofs.Equal.{equal_places, is_same_place, same_place_is}
 use Rattle.table_law.proofs.Lists.{finds_one}
-use Rattle.flow_defs.specs.Arrival.{decoded_insn, site_end}
+use Rattle.flow_defs.specs.Arrival.{decoded_insn}
 use Rattle.flow_defs.specs.Code.{is_plain, no_point, number_of, plain_point, point_at, points_of_object}
 use Rattle.flow_defs.specs.Program.{is_right_before, previous_of}
 use Rattle.object_law.specs.Flows.{HasBytes}
@@ -128,7 +128,7 @@ pub behind_straight : (o : Coded) (n : ℕ) → HasBytes o → IsStraight o n �
 behind_straight o n bytes is = behind_plain o n bytes (omega (arith, is.inside)) is.plain next_plain next_place
   where
     next_place : (point_at o (n + 1)).place ≡ behind (point_at o n).place (decoded_insn o (point_at o n)).len
-    next_place = ap (λ (x : Point). x.place) is.next ∙ ap (λ b. cond b (behind (point_at o n).place (decoded_insn o (point_at o n)).len) (site_end o (point_at o n))) is.plain
+    next_place = ap (λ (x : Point). x.place) is.next ∙ is.ends
 
     next_plain : (point_at o (n + 1)).variant ≡ 0
     next_plain = ap (λ (x : Point). x.variant) is.next

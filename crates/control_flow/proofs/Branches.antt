@@ -17,7 +17,8 @@ use Rattle.alternatives.proofs.Ascending.{In, contains_in}
 use Rattle.alternatives.proofs.Listing.{points_complete}
 use Rattle.alternatives.proofs.Placed.{and_both}
 use Rattle.alternatives.proofs.SiteEntries.{is_place_refl, place_is}
-use Rattle.flow_defs.specs.Arrival.{decoded_insn, no_insn}
+use Rattle.flow_defs.specs.Arrival.{decoded_insn}
+use Rattle.flow_defs.specs.Decoded.{no_insn}
 use Rattle.flow_defs.specs.Code.{alternatives_of, no_point, number_of, plain_point, point_at, points_of_object, same_point, texts_of}
 use Rattle.flow_defs.specs.Faults.{is_branch_op, is_branch_site, is_call_insn, is_direct_call}
 use Rattle.control_flow.specs.Judged.{is_no_branch, is_no_call}

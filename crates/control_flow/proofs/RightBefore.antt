@@ -13,7 +13,8 @@ use Rattle.alternatives.specs.Points.{entry_of, insn_of_point, is_point, replace
 use Rattle.alternatives.specs.Texts.{behind, insn_at}
 use Rattle.table_law.proofs.Equal.{equal_places, is_same_place, same_place_is}
 use Rattle.table_law.proofs.Lists.{finds_none, finds_one, some_is}
-use Rattle.flow_defs.specs.Arrival.{decoded_insn, no_insn}
+use Rattle.flow_defs.specs.Arrival.{decoded_insn}
+use Rattle.flow_defs.specs.Decoded.{no_insn}
 use Rattle.flow_defs.specs.Code.{alternatives_of, is_plain, number_of, plain_point, points_of_object, texts_of}
 use Rattle.flow_defs.specs.Program.{is_right_before, previous_of}
 use Rattle.object_law.proofs.Entries.{plain_listed}
