@@ -1,6 +1,6 @@
 -- The program of an object by the object's own words.
 use Rattle.std.proofs.Common.{◌≡◌, ℕ, ◌&&◌, ◌||◌, Bool, true, false, cond, not, Option, Some, None, refl, sym, ap, ◌∙◌}
-use Rattle.std.specs.Prelude.{is_none}
+use Rattle.std.specs.Prelude.{is_none, is_some}
 use Rattle.std.proofs.lemmas.Bool.{false≢true}
 use Rattle.ot_base.specs.NameLists.{NameLists}
 use Rattle.flow_defs.specs.Coded.{Coded}
@@ -17,9 +17,9 @@ use Rattle.return_search.specs.declared.searched_flow.Exit.{Exit}
 use Rattle.return_search.specs.declared.searched_flow.Exit.TheVariants as exits
 use Rattle.return_search.specs.Told.{call_exit, exit_by, exit_of}
 
-or_false : (b : Bool) → (b || false) ≡ b
-or_false true = refl
-or_false false = refl
+none_is : (x : Option ℕ) → is_none x ≡ not (is_some x)
+none_is None = refl
+none_is (Some x) = refl
 
 pub never_returns_is : (o : Coded) (lists : NameLists) (sym : ℕ) → (program_of o lists).never_returns sym ≡ never_returns_by o.elf lists sym
 unfolding program_of returning_graph graph_of
@@ -115,16 +115,12 @@ module _ (o : Coded) (lists : NameLists) (q : ℕ) where
       ∙ ap (is_listed_by p (p.names q)) (own ∙ sym (role_is o lists q))
       ∙ sym (ap (λ (b : Bool). not b && is_listed_by p (p.names q) (p.role q)) (marked_is o lists q ∙ sym is ∙ no))
 
-  -- one of a function, by that's name, or one of code of no function, by the name of either
-  pub owned_entry : (entry : ℕ) (listed : Bool) → is_none (owner_of_point o (point_at o entry)) ≡ false → listed ≡ is_listed_symbol p (p.function entry) → listed ≡ is_listed_by p (p.names q) (roles.CallIn entry)
-  owned_entry entry listed owned by =
-      by ∙ sym (ap (λ (b : Bool). is_listed_symbol p (p.function entry) || (b && is_listed_symbol p (p.names q))) (ap is_none (owner_is o lists entry) ∙ owned) ∙ or_false (is_listed_symbol p (p.function entry)))
+  -- one of code of no function, by the symbol that names it
+  pub owned_entry : (entry : ℕ) → is_some (owner_of_point o (point_at o entry)) ≡ true → false ≡ (is_none (p.owner entry) && is_listed_symbol p (p.names q))
+  owned_entry entry owned = sym (ap (λ (b : Bool). b && is_listed_symbol p (p.names q)) (ap is_none (owner_is o lists entry) ∙ none_is (owner_of_point o (point_at o entry)) ∙ ap not owned))
 
-  pub free_entry : (entry : ℕ) (listed named : Bool) → is_none (owner_of_point o (point_at o entry)) ≡ true → listed ≡ is_listed_symbol p (p.function entry) → named ≡ is_listed_symbol p (p.names q) → (listed || named) ≡ is_listed_by p (p.names q) (roles.CallIn entry)
-  free_entry entry listed named free by own =
-      ap (λ (b : Bool). b || named) by
-      ∙ ap (λ (b : Bool). is_listed_symbol p (p.function entry) || b) own
-      ∙ sym (ap (λ (b : Bool). is_listed_symbol p (p.function entry) || (b && is_listed_symbol p (p.names q))) (ap is_none (owner_is o lists entry) ∙ free))
+  pub free_entry : (entry : ℕ) (listed : Bool) → is_some (owner_of_point o (point_at o entry)) ≡ false → listed ≡ is_listed_symbol p (p.names q) → listed ≡ (is_none (p.owner entry) && is_listed_symbol p (p.names q))
+  free_entry entry listed free by = by ∙ sym (ap (λ (b : Bool). b && is_listed_symbol p (p.names q)) (ap is_none (owner_is o lists entry) ∙ none_is (owner_of_point o (point_at o entry)) ∙ ap not free))
 
 -- whether a function is listed, by its symbol
 pub listed_name : (o : Coded) (lists : NameLists) (n name : ℕ) → function_of_point o (point_at o n) ≡ Some name → is_listed_symbol (program_of o lists) ((program_of o lists).function n) ≡ never_returns_by o.elf lists name

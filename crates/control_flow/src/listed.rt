@@ -1,6 +1,6 @@
 //! What the points are to returns, by their numbers.
 
-ghost use Rattle.std.specs.Prelude.{◌≡◌, ◌+◌, ◌<◌, false};
+ghost use Rattle.std.specs.Prelude.{◌≡◌, ◌+◌, ◌<◌, ◌&&◌, false, is_none};
 ghost use Rattle.flow_defs.specs.Arrival.{insn_of_object, is_dead_end};
 ghost use Rattle.flow_defs.specs.Code.{point_at};
 ghost use Rattle.flow_defs.specs.Program.{is_marked_call as is_a_marked_call, program_of};
@@ -63,6 +63,26 @@ fn is_listed_by_name(
     }
 }
 
+/// Whether a call of an entry that is code of no function is listed, by the symbol by which it names that.
+fn is_listed_free_code(
+    places: &PointPlaces<'_, '_, '_>,
+    lists: &Lists,
+    known: &mut Vec<Option<bool>>,
+    n: u32,
+    entry: u32,
+) -> bool
+    requires point { n < count_of places.now }
+    requires entry { entry < count_of places.now }
+    requires known { AreLookedUp places.now.elf lists.now known.old.items }
+    ensures is { let p = program_of places.now lists.now in result ≡ (is_none (p.owner entry) && is_listed_symbol p (p.names n)) }
+    ensures known { AreLookedUp places.now.elf lists.now known.new.items }
+{
+    if places.owner(entry).is_some() {
+        return false;
+    }
+    is_listed_by_name(places, lists, known, n)
+}
+
 /// Whether a call of an entry is listed: by the function whose start that is, or where it is code of no function, by the symbol
 /// by which the call names it.
 fn is_listed_entry(
@@ -78,10 +98,8 @@ fn is_listed_entry(
     ensures is { let p = program_of places.now lists.now in result ≡ is_listed_by p (p.names n) (Role.CallIn entry) }
     ensures known { AreLookedUp places.now.elf lists.now known.new.items }
 {
-    if places.owner(entry).is_some() {
-        return is_listed_function(places, lists, known, entry);
-    }
-    is_listed_function(places, lists, known, entry) || is_listed_by_name(places, lists, known, n)
+    is_listed_function(places, lists, known, entry)
+        || is_listed_free_code(places, lists, known, n, entry)
 }
 
 /// Whether a call with this role is told by a listed name: that of its symbol, or of the function whose start is its entry.
