@@ -31,11 +31,10 @@ use Rattle.flow_defs.specs.declared.destination.Destination.TheVariants.{ToIndir
 use Rattle.flow_defs.specs.Arrival.{after, arrive, insn_of_object, is_at_end, is_dead_end, is_padding}
 use Rattle.flow_defs.specs.Code.{alternatives_of, is_plain, texts_of}
 use Rattle.flow_defs.specs.Edges.{branch_edges, branch_edges_by, edges_to, ends_flow, fixups, goes, goes_on, is_some_place, jump_edges, listed_edges, next_edges, static_targets, table_edges, way_edges}
-use Rattle.flow_defs.specs.Faults.{is_past_start}
 use Rattle.flow_defs.specs.Marks.{branch_places, calls_into_function, has_bad_target, has_relocated_offset, has_stack_offset, has_target_in_site, is_bad_branch, is_bad_by, is_bad_jump, is_bad_listed, is_inner_call_by, jump_places, listed_places, marks_of, places_by, target_places}
 use Rattle.flow_defs.specs.Owners.{is_unchecked_point, owner_of_point}
 use Rattle.flow_defs.specs.Roles.{jump_by_table, jump_role, returns_through, role_by, role_of, role_through, table_of_point}
-use Rattle.flow_defs.specs.Sites.{enters_site, is_into_site, is_original_of, site_holding, sites_of}
+use Rattle.flow_defs.specs.Sites.{enters_site, is_into_site, is_original_of, is_past_start, site_holding, sites_of}
 use Rattle.flow_defs.specs.Targets.{destination_of}
 use Rattle.point_edges.specs.Tables.{table_start_of}
 use Rattle.control_flow.proofs.Undirected.{by_thunk_through, is_by_memory, memory_through}

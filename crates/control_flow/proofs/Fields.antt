@@ -107,13 +107,13 @@ module _ (o : Coded) (lists : NameLists) (q : ℕ) where
 
   -- ---- whether a call is listed
   pub marked_listed : (marked : Bool) → marked ≡ is_marked_call o (point_at o q) → marked ≡ true → false ≡ is_listed p q
-  marked_listed marked is yes = sym (ap (λ (b : Bool). not b && is_listed_by p (p.names q) (p.role q)) (marked_is o lists q ∙ sym is ∙ yes))
+  marked_listed marked is holds = sym (ap (λ (b : Bool). not b && is_listed_by p (p.names q) (p.role q)) (marked_is o lists q ∙ sym is ∙ holds))
 
   pub unmarked_listed : (marked listed : Bool) (role : Role) → marked ≡ is_marked_call o (point_at o q) → marked ≡ false → role ≡ role_of o (point_at o q) → listed ≡ is_listed_by p (p.names q) role → listed ≡ is_listed p q
-  unmarked_listed marked listed role is no own by =
+  unmarked_listed marked listed role is fails own by =
       by
       ∙ ap (is_listed_by p (p.names q)) (own ∙ sym (role_is o lists q))
-      ∙ sym (ap (λ (b : Bool). not b && is_listed_by p (p.names q) (p.role q)) (marked_is o lists q ∙ sym is ∙ no))
+      ∙ sym (ap (λ (b : Bool). not b && is_listed_by p (p.names q) (p.role q)) (marked_is o lists q ∙ sym is ∙ fails))
 
   -- one of code of no function, by the symbol that names it
   pub owned_entry : (entry : ℕ) → is_some (owner_of_point o (point_at o entry)) ≡ true → false ≡ (is_none (p.owner entry) && is_listed_symbol p (p.names q))

@@ -176,10 +176,12 @@ fn keep(
             number: number_transfer(transfers, transfer)?,
         }),
         Found::Alike { first } => {
-            let transfer = alike_transfer(points, n, transfers[numbers[first as usize] as usize]);
+            let earlier = numbers[first as usize];
+            let known = transfers[earlier as usize];
+            let number = number_transfer(transfers, alike_transfer(points, n, known))?;
             Ok(Kept {
                 exit: StoredExit::passing(),
-                number: number_transfer(transfers, transfer)?,
+                number,
             })
         }
     }
