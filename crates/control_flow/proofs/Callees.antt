@@ -38,8 +38,8 @@ or_true false = refl
 named_entered : (o : Coded) (entry q : ℕ) → IsNamedAt o entry q → (is_none (owner_of_point o (point_at o q)) ≡ false) → IsEnteredAt o entry q
 named_entered o entry q at owned = elim (cases_Bool (is_entry o.elf (point_at o entry).place)) [
   | inl is ↦ is_entered o (point_at o entry).place q entry at.stands is at.number
-  | inr no ↦
-      let none : is_none (owner_of_point o (point_at o entry)) ≡ true = sym (ap (λ b. b || is_none (owner_of_point o (point_at o entry))) no) ∙ at.called in
+  | inr other ↦
+      let none : is_none (owner_of_point o (point_at o entry)) ≡ true = sym (ap (λ b. b || is_none (owner_of_point o (point_at o entry))) other) ∙ at.called in
       let known = numbered o (plain_point (point_at o entry).place) entry at.number in
       let own = plain_stands o entry known.0 (ap (λ (p : Point). p.variant) known.1) in
       let same : owner_of_point o (point_at o q) ≡ owner_of_point o (point_at o entry) = arriving_owner o (point_at o entry).place q at.stands ∙ sym (arriving_owner o (point_at o entry).place entry own) in

@@ -1,8 +1,8 @@
 -- Entries are listed for the points at which control stands that comes to them, start by start.
-use Rattle.std.proofs.Common.{◌≡◌, ◌≢◌, ℕ, ◌+◌, ◌<◌, ◌≤◌, ◌⊎◌, ◌||◌, inl, inr, true, false, List, Option, Some, None, Contains, map, length, replicate, get_or, set, refl, sym, ap, ◌∙◌, subst, arith, length-set, get_or-set_same, get_or-set_other}
+use Rattle.std.proofs.Common.{◌≡◌, ◌≢◌, ℕ, ◌+◌, ◌-◌, ◌<◌, ◌≤◌, ◌⊎◌, ◌||◌, inl, inr, true, false, List, Option, Some, None, Contains, map, length, replicate, get_or, set, refl, sym, ap, ◌∙◌, subst, arith, length-set, get_or-set_same, get_or-set_other}
 use Rattle.std.proofs.lemmas.Bool.{cases_Bool, cases_eq, cases_lt, false≢true}
 use Rattle.std.specs.Prelude.{is_none}
-use Rattle.std.proofs.lemmas.List.{get_or-map, get_or-replicate, get_or_append_left, get_or_append_right, get_or_default, get_or_past, length-append, length-map, length-replicate}
+use Rattle.std.proofs.lemmas.List.{get_or-map, get_or-replicate, get_or_append_left, get_or-append_right, get_or_default, get_or_past, length-append, length-map, length-replicate}
 use Rattle.ot_base.specs.declared.place.Place.{Place}
 use Rattle.ot_base.specs.Places.{same_place}
 use Rattle.elf_objects.specs.Elf.{Elf}
@@ -195,7 +195,8 @@ module _ (o : Coded) (fs : List Function) (entered : List (Option ℕ)) (n : ℕ
 
   at_site : (k : ℕ) → k < length (alternatives_of o) → start_at (starts_of fs (alternatives_of o)) (length at_functions + k) ≡ (entry_at (alternatives_of o) k).original
   at_site k inside =
-      get_or_append_right at_functions at_sites nowhere k
+      get_or-append_right at_functions at_sites (length at_functions) (length at_functions + k) nowhere refl (omega arith)
+      ∙ ap (λ i. get_or at_sites i nowhere) (let same : length at_functions + k - length at_functions ≡ k = omega arith in same)
       ∙ get_or-map (λ (a : AltEntry). a.original) (alternatives_of o) k alternatives.no_entry nowhere inside
 
   of_entry : (q e : ℕ) → IsEnteredAt o e q → IsNamedAt o e q

@@ -20,7 +20,7 @@ returns c =
     let restores = c.args.hints.now.restores in
     let known : Option ℕ = c.in_ok-known.known in
     let x : Rare = c.rare_of.result in
-    let rare : IsRare o n known x = subst (λ (e : Coded). IsRare e n known x) c.places.ensures c.rare_of.ensures in
+    let rare : IsRare o n known x = subst (λ (e : Coded). IsRare e n known x) c.places-places.ensures c.rare_of.ensures in
     let after = c.number_rare.new.rares.items in
     all_ok c.number_rare.result (λ number is numbers are.
     more_rares o restores c.args.self.now.rares.items after c.args.self.now.hinted.items c.push_hinted.new.hinted.items numbers n c.hinted_of.result known number x are
