@@ -9,7 +9,6 @@ use Rattle.symbols_relocs.specs.BranchNames.{name_by}
 use Rattle.symbols_relocs.specs.Displacements.{displacement_of}
 use Rattle.alternatives.specs.declared.point.Point.{Point}
 use Rattle.flow_defs.specs.Coded.{Coded}
-use Rattle.flow_defs.specs.declared.destination.Destination.{Destination}
 use Rattle.flow_defs.specs.declared.destination.Destination.TheVariants.{ToIndirectThunk}
 use Rattle.flow_defs.specs.Arrival.{around, decoded_insn, insn_of_object}
 use Rattle.flow_defs.specs.Roles.{returns_through, returns_through_by}

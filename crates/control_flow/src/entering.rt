@@ -1,9 +1,9 @@
 //! By what numbers calls name the points, listed from where functions and alternatives sites start.
 
-ghost use Rattle.std.specs.Prelude.{◌≡◌, ◌+◌, ◌<◌, ◌^◌, ◌⊎◌, ◌||◌, ℕ, List, Option, None, Some, All, Contains, IfOk, OnOk, is_none, length, replicate, slice_index_or};
+ghost use Rattle.std.specs.Prelude.{◌≡◌, ◌+◌, ◌<◌, ◌^◌, ◌⊎◌, ◌||◌, ℕ, List, Option, None, Some, All, Contains, IfOk, OnOk, is_none, length, map, replicate, slice_index_or};
 ghost use Rattle.flow_defs.specs.Code.{alternatives_of, point_at};
 ghost use Rattle.flow_defs.specs.Owners.{is_entry as is_an_entry, owner_of_point};
-ghost use Rattle.symbols_relocs.specs.declared.function.Function.{Function};
+ghost use Rattle.symbols_relocs.specs.declared.function.Function.{Function as FunctionValue};
 ghost use Rattle.symbols_relocs.specs.Lists.{AreFunctions};
 ghost use Rattle.control_flow.specs.Entering.{AreRight, starts_of};
 ghost use Rattle.control_flow.specs.Listed.{AreEntered, count_of};
@@ -15,7 +15,9 @@ use object_points::PointPlaces;
 use ot_base::{NoMemory, Place};
 use point_edges::FlowPoints;
 use return_search::StoredEntry;
+use special_sections::AltEntry;
 use std::alloc::Global;
+use symbols_relocs::Function;
 
 /// Calls name none of so many points.
 fn none_entered(alloc: Global, count: u32) -> Result<Vec<StoredEntry>, NoMemory>
@@ -73,18 +75,32 @@ fn enter_start(
     Ok(())
 }
 
-/// Where functions start, and the originals of alternatives.
-fn list_starts(alloc: Global, places: &PointPlaces<'_, '_, '_>) -> Result<Vec<Place>, NoMemory>
-    ensures { IfOk result (λ starts. (functions : List Function) × AreFunctions places.now.elf functions × (starts.items ≡ starts_of functions (alternatives_of places.now))) }
+/// Where functions start.
+fn function_starts(alloc: Global, functions: &[Function]) -> Result<Vec<Place>, NoMemory>
+    ensures { IfOk result (λ starts. starts.items ≡ map (λ f. f.start) functions.now) }
 {
-    let linked = places.linked();
-    let functions = linked.index().functions();
-    let entries = linked.special().alternatives();
-    let mut starts: Vec<Place> = functions
+    let starts = functions
         .iter()
         .map(|function| function.start)
         .collect(alloc)?;
-    let originals: Vec<Place> = entries.iter().map(|entry| entry.original).collect(alloc)?;
+    Ok(starts)
+}
+
+/// Where the originals of alternatives begin.
+fn original_places(alloc: Global, entries: &[AltEntry]) -> Result<Vec<Place>, NoMemory>
+    ensures { IfOk result (λ places. places.items ≡ map (λ a. a.original) entries.now) }
+{
+    let places = entries.iter().map(|entry| entry.original).collect(alloc)?;
+    Ok(places)
+}
+
+/// Where functions start, and the originals of alternatives.
+fn list_starts(alloc: Global, places: &PointPlaces<'_, '_, '_>) -> Result<Vec<Place>, NoMemory>
+    ensures { IfOk result (λ starts. (functions : List FunctionValue) × AreFunctions places.now.elf functions × (starts.items ≡ starts_of functions (alternatives_of places.now))) }
+{
+    let linked = places.linked();
+    let mut starts = function_starts(alloc, linked.index().functions())?;
+    let originals = original_places(alloc, linked.special().alternatives())?;
     starts.extend_from_slice(&originals)?;
     Ok(starts)
 }

@@ -137,7 +137,13 @@ pub(crate) fn parts_of(
     ensures shape { IfOk result HaveShape }
 {
     let edges = edge_parts(alloc, points, lists)?;
-    let own = point_parts(alloc, points, lists, &edges.returns, &edges.transfers.numbers)?;
+    let own = point_parts(
+        alloc,
+        points,
+        lists,
+        &edges.returns,
+        &edges.transfers.numbers,
+    )?;
     let beside = place_parts(alloc, points.places())?;
     let EdgeParts {
         returns,

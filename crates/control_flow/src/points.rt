@@ -225,16 +225,7 @@ pub(crate) fn list_points(
             is_entered: is_entered(points, returns, n),
             transfer: transfers[k],
         };
-        let kind = number_kind(
-            alloc,
-            points,
-            hints,
-            switching,
-            insns,
-            &mut shared,
-            n,
-            told,
-        )?;
+        let kind = number_kind(alloc, points, hints, switching, insns, &mut shared, n, told)?;
         made.push_reserved(point_of(points, owners, n, kind));
     }
     let Shared { kinds, rares } = shared;

@@ -9,6 +9,7 @@ use Rattle.symbols_relocs.specs.Lists.{AreFunctions}
 use Rattle.alternatives.specs.declared.texts.SectionText.{SectionText}
 use Rattle.flow_defs.specs.declared.fault.FlowFault.TheVariants.{FuncStart}
 use Rattle.flow_defs.specs.Code.{texts_of}
+use Rattle.object_points.specs.Linked.{IsLinked}
 use Rattle.control_flow.proofs.StartPlaces.{fault_of, first_start, no_start}
 use Rattle.control_flow.proofs.starts.find_bad_start.Goals as goal
 
@@ -37,3 +38,12 @@ returns-clause-first c =
     let all : AreFunctions o.elf fs = subst (λ (e : Elf). AreFunctions e fs) (c.index.ensures ∙ ap (λ (e : Coded). e.elf) c.linked-linked.ensures) c.functions.ensures.all in
     let right : first_bad o.elf ≡ None = subst (λ (e : Coded). first_bad e.elf ≡ None) c.linked-linked.ensures c.texts.ensures.linked.1.before.functions in
     sym (first_start o fs all c.requires right ∙ ap (option_map fault_of) (sym c.find_misplaced.ensures ∙ c.in_ok-function.was))
+
+pub returns-then-is_empty-clause-linked : goal.returns-then-is_empty-clause-linked
+returns-then-is_empty-clause-linked c = (c.texts.ensures.linked.0, subst (λ (e : Coded). IsLinked e c.texts.ensures.linked.0) c.linked-linked.ensures c.texts.ensures.linked.1)
+
+pub returns-in_err-function-clause-linked : goal.returns-in_err-function-clause-linked
+returns-in_err-function-clause-linked c = (c.texts.ensures.linked.0, subst (λ (e : Coded). IsLinked e c.texts.ensures.linked.0) c.linked-linked.ensures c.texts.ensures.linked.1)
+
+pub returns-clause-linked : goal.returns-clause-linked
+returns-clause-linked c = (c.texts.ensures.linked.0, subst (λ (e : Coded). IsLinked e c.texts.ensures.linked.0) c.linked-linked.ensures c.texts.ensures.linked.1)

@@ -1,5 +1,4 @@
-use Rattle.std.proofs.Common.{◌≡◌, Bool, true, false, ◌&&◌, sym, ap, ◌∙◌}
-use Rattle.ot_base.specs.declared.place.Place.{Place}
+use Rattle.std.proofs.Common.{◌≡◌, ◌&&◌, sym, ap, ◌∙◌}
 use Rattle.elf_objects.specs.Elf.{Elf}
 use Rattle.symbols_relocs.specs.NamedCode.{is_in_named_code}
 use Rattle.alternatives.specs.declared.point.Point.{Point}
