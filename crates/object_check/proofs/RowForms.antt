@@ -1,5 +1,5 @@
 -- The rows of consistent states tell call frames.
-use Rattle.std.proofs.Common.{◌≡◌, ℕ, ◌⊎◌, Bool, true, false, cond, Option, Some, None, ℤ, pos, negsuc, refl, sym, ap, subst, inl, inr, arith, Contains, List}
+use Rattle.std.proofs.Common.{◌≡◌, ℕ, ◌⊎◌, Bool, true, false, cond, Option, Some, None, ℤ, pos, refl, sym, ap, subst, inl, inr, arith, Contains, List}
 use Rattle.std.specs.Prelude.{All, neg_ℤ, option_map, ◌≤ℤ◌}
 use Rattle.std.proofs.lemmas.Int.{ints}
 use Rattle.std.proofs.lemmas.List.Elements.{All-contains}
@@ -21,13 +21,13 @@ use Rattle.flow_defs.specs.Coded.{Coded}
 use Rattle.flow_defs.specs.Program.{program_of}
 use Rattle.machine_defs.specs.Program.{Program, Site}
 use Rattle.machine_defs.specs.IsProgram.{IsProgram, HintsStandAtPoints}
-use Rattle.machine_defs.specs.Kept.{AreKeptStates, Kept}
+use Rattle.machine_defs.specs.Kept.{AreKeptStates}
 use Rattle.machine_defs.specs.Rows.{is_kept_site, kept_at, plain_at, place_in, row_at, row_by, row_in_site, row_of_point, row_or_zero, rows_of, section_rows, site_at}
 use Rattle.unwinding_law.proofs.KeptPoints.{kept_are_points}
 use Rattle.unwinding_law.proofs.KeptStates.{kept_consistent}
 use Rattle.unwinding_law.proofs.Lists.{all_of, from_flat_map}
 use Rattle.table_law.proofs.Lists.{some_is}
-use Rattle.table_law.proofs.Sections.{end_row, from_ended, left_is_row, rows_left}
+use Rattle.table_law.proofs.Sections.{from_ended, left_is_row, rows_left}
 use Rattle.eh_frame.specs.RowFrames.{IsFrameRow}
 use Rattle.object_law.specs.Rows.{IsPlacedRow}
 

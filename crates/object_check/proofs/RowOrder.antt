@@ -1,5 +1,5 @@
 -- The rows of an object's program strictly ascend by their places.
-use Rattle.std.proofs.Common.{◌≡◌, ℕ, ◌<◌, ◌⊎◌, Bool, true, false, cond, List, [], ◌∷◌, ◌++◌, Option, Some, None, Contains, map, filter, flat_map, length, refl, sym, ap, ◌∙◌, subst, inl, inr, arith}
+use Rattle.std.proofs.Common.{◌≡◌, ℕ, ◌<◌, Bool, true, false, cond, List, [], ◌∷◌, ◌++◌, Option, Some, None, Contains, map, flat_map, length, sym, ap, ◌∙◌, subst, inl, inr, arith}
 use Rattle.std.specs.Prelude.{AllPairs, option_map}
 use Rattle.std.specs.List.{range_with_len}
 use Rattle.std.proofs.lemmas.List.Elements.{Contains-append_cases}
@@ -21,7 +21,7 @@ use Rattle.flow_defs.specs.Program.{graph_of, program_of, returning_graph, text_
 use Rattle.machine_defs.specs.Program.{Program}
 use Rattle.machine_defs.specs.Rows.{place_in, placed, row_at, rows_of, section_rows, with_end, without_repeats}
 use Rattle.table_defs.specs.Order.{ComesBefore}
-use Rattle.alternatives.proofs.Ascending.{Rising, every-in, every-map, every-weaker, in_contains, rising-filter, rising-range}
+use Rattle.alternatives.proofs.Ascending.{Rising, every-in, every-map, in_contains, rising-filter, rising-range}
 use Rattle.unwinding_law.proofs.Lists.{all_of, cases, from_flat_map, nowhere, there, here}
 use Rattle.table_law.proofs.Compress.{Rises, left_in, rises_below}
 use Rattle.table_law.proofs.Lists.{some_is}

@@ -1,4 +1,3 @@
-use Rattle.flow_defs.specs.Program.{program_of}
 use Rattle.object_check.proofs.RowForms.{rows_are_frame_rows}
 use Rattle.object_check.proofs.RowOrder.{rows_ascend}
 use Rattle.object_check.proofs.laws.rows_tell_frames.Goals as goal
