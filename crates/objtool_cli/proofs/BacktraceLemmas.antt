@@ -1,6 +1,6 @@
 -- What backtraces need of the warnings of an object.
 use Rattle.std.proofs.Common.{◌≡◌, ℕ, List, Option, arith, refl, sym, subst}
-use Rattle.std.specs.Prelude.{true, ◌↔◌, Contains, ℤ}
+use Rattle.std.specs.Prelude.{true, ℤ}
 use Rattle.ot_base.specs.NameLists.{NameLists}
 use Rattle.ot_base.specs.declared.options.Options.{Options}
 use Rattle.ot_base.specs.declared.place.Place.{Place}
@@ -10,7 +10,6 @@ use Rattle.cli_words.specs.declared.options.CheckOptions.{CheckOptions}
 use Rattle.elf_objects.specs.Elf.{Elf}
 use Rattle.state_defs.specs.declared.state.State.{State}
 use Rattle.machine_defs.specs.Program.{Program}
-use Rattle.machine_defs.specs.IsProgram.{IsProgram}
 use Rattle.machine_defs.specs.Kept.{AreKeptStates}
 use Rattle.machine_defs.specs.Allowances.{Allowances}
 use Rattle.machine_defs.specs.AccessRules.{AccessWarns, call_with_access, off_twice, on_twice, popf, return_with_access, return_without_access, safe_turns_off}
@@ -19,7 +18,7 @@ use Rattle.machine_defs.specs.Broken.{IsBroken, Warns, always, unreachable, with
 use Rattle.program_graph.specs.declared.parts.GraphParts.{GraphParts}
 use Rattle.program_graph.specs.Tells.{Tells}
 use Rattle.kept_states.specs.LevelStates.{at}
-use Rattle.flow_defs.specs.Coded.{Coded, coded_by}
+use Rattle.flow_defs.specs.Coded.{Coded}
 use Rattle.flow_defs.specs.Program.{program_of}
 use Rattle.object_law.specs.Flows.{ProgramIsLaidOut, ProgramIsOne}
 use Rattle.object_check.specs.Code.{IsCodeFault, IsCodeOf, no_memory, unflowed, unlinked}
@@ -35,7 +34,7 @@ use Rattle.command_base.specs.Outside.{Output}
 use Rattle.command_base.specs.Printing as printing
 use Rattle.command_base.specs.BacktraceCases.{IsWarnedOf}
 use Rattle.command_base.specs.BacktracePrinting.{PrintsBacktraces, silent, tells}
-use Rattle.objtool_cli.specs.Checked.{allowances_under, program_under}
+use Rattle.objtool_cli.specs.Checked.{program_under}
 use Rattle.objtool_cli.specs.Telling.{TellsWarnings, backtraces, printed, unread}
 
 -- why the code isn't read is why the object isn't checked
