@@ -110,7 +110,7 @@ sites_told options map input output names held before after out out' x c (stoppe
 refused_not_done : OneOutcome → (s : CommandStop) (options : ListOptions) (map : Map) (input output : List ℕ) (names : Option (List ℕ)) (held : Content) (before after : Outside) (out out' : Output) (x : Status) → before.content ≡ Some held → RefusesSites options map input names held s → EndsSites options map input output names before after out out' x → x ≢ Done
 refused_not_done one s options map input output names held before after out out' Done c why (done o file may e same) is =
     unrefused (GetNoSites options map) s input names held may.read may.under (is_read MAX_FILE_BYTES input may.read held before.content c may.is_read.may) (named_in names held before.content may.under c may.is_read.named)
-    (λ t no. gets_excluded one t map may.read may.under o may.is may.gets no) why
+    (λ t no. gets_excluded one t options map may.read may.under o may.is may.gets no) why
 refused_not_done one s options map input output names held before after out out' x c why (stopped told h t) is = concluded_not_done told out out' x t is
 
 -- ---- the other statuses

@@ -21,4 +21,4 @@ returns-clause-ends g c =
 
 pub add_sites-requires-clause-read : goal.add_sites-requires-clause-read
 add_sites-requires-clause-read g c =
-    was_read _ _ _ _ _ c.in-Ok.bytes.items c.as_slice.result.now c.in-Ok-read_names.field-0 c.read_file.ensures.unchanged c.read_names.ensures.unchanged c.as_slice.ensures.value c.in-Ok.ensures.ok c.in-Ok-read_names.ensures.ok
+    was_read _ _ _ _ _ c.in-Ok.bytes.items c.as_slice.result.now c.in-Ok-read_names.lists c.read_file.ensures.unchanged c.read_names.ensures.unchanged c.as_slice.ensures.value c.in-Ok.ensures.ok c.in-Ok-read_names.ensures.ok
