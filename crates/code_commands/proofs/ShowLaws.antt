@@ -29,7 +29,7 @@ use Rattle.command_base.proofs.ConcludeLemmas.{concluded_fault, concluded_no_war
 use Rattle.command_base.proofs.DumpLaws.{not_file_fault, not_sink_fault, not_warnings, printed_done, text_left}
 use Rattle.command_base.proofs.Stops.{concluded_usage, done_no_usage, done_not_refused, is_read, left, of_stop, whole_text}
 use Rattle.code_commands.specs.Entry.{MayBeChecked}
-use Rattle.code_commands.specs.Show.{EndsShow, HasCode, HasFunction, IsNoFunction, MayBeShown, PrintsListing, StopsShow, no_function, shown, stopped, unchecked}
+use Rattle.code_commands.specs.Show.{EndsShow, HasCode, HasFunction, IsNoFunction, PrintsListing, StopsShow, no_function, shown, stopped, unchecked}
 use Rattle.code_commands.specs.ShowRefused as refused
 use Rattle.code_commands.specs.ShowRefused.{RefusesShow}
 use Rattle.command_base.proofs.InputLemmas.{named_in}

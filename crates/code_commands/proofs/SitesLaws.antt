@@ -30,7 +30,7 @@ use Rattle.command_base.proofs.InputLemmas.{IsKnown, named_in, names_refuse, one
 use Rattle.code_commands.specs.Sites.{EndsSites, GetNoSites, MayGetSites, OutListsSites, SitesMayChange, StopsSites, done, has_sites, malformed, no_memory, refused, stopped, too_many_sections, too_many_symbols, unflowed, unlinked, unread, unwritten, without_names}
 use Rattle.command_base.proofs.Content.{get-insert_same, held_is, written_others}
 use Rattle.code_commands.proofs.SitesGets.{gets_excluded}
-use Rattle.command_base.proofs.Stops.{concluded_usage, done_not_refused, is_read, left, names_fault, names_left, names_no_usage, neither, not_memory, of_stop, one_text, read_no_usage, unreadable, write_fault, write_no_usage, write_not_refused, write_told}
+use Rattle.command_base.proofs.Stops.{concluded_usage, done_not_refused, is_read, left, names_fault, names_left, names_no_usage, neither, not_memory, of_stop, read_no_usage, unreadable, write_fault, write_no_usage, write_not_refused, write_told}
 
 -- ---- what it leaves
 
