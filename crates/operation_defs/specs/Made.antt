@@ -1,14 +1,36 @@
 -- What decoding gives, and what a program makes of it.
-use Rattle.std.specs.Prelude.{Bool, true, false, ◌&&◌, if◌then◌else◌}
+use Rattle.std.specs.Prelude.{ℕ, ◌^◌, ◌/◌, ◌%◌, ◌==◌, Bool, true, false, ◌&&◌, Option, Some, None, if◌then◌else◌, ℤ}
+use Rattle.operation_defs.specs.declared.op.DrapRegister.{DrapRegister}
+use Rattle.operation_defs.specs.declared.op.DrapRegister.TheVariants.{R10, R13}
 use Rattle.operation_defs.specs.declared.op.Op.{Op}
-use Rattle.operation_defs.specs.declared.op.Op.TheVariants.{LeaBpSp, LeaBpRoom, SpOther, BpOther, Call, Hop, Jmp, Iret, IretNext, Switch}
+use Rattle.operation_defs.specs.declared.op.Op.TheVariants.{Plain, AndSp, AndDrap, LeaBpSp, LeaBpRoom, LeaReg, Keep, SpReg, BackSp, StoreSp, CellSp, CopyBp, StoreThrough, SpOther, BpOther, Call, Hop, Jmp, Iret, IretNext, Switch}
 
--- Whether decoding may give an operation. Three come from a program alone.
+-- the number of a register among the general ones
+abbrev pub register_of : DrapRegister → ℕ
+register_of R10 = 10
+register_of R13 = 13
+
+-- whether a set of registers, by the bits of a number, has one
+abbrev pub has_register : ℕ → ℕ → Bool
+has_register registers r = (registers / 2 ^ r) % 2 == 1
+
+-- Whether decoding may give an operation. Nine come from a program alone.
 abbrev pub is_decoded : Op → Bool
 is_decoded Hop = false
 is_decoded (LeaBpRoom by) = false
 is_decoded IretNext = false
+is_decoded (Keep reg by) = false
+is_decoded (BackSp reg) = false
+is_decoded (AndDrap reg mask) = false
+is_decoded (CellSp reg) = false
+is_decoded (CopyBp reg) = false
+is_decoded (StoreThrough reg at) = false
 is_decoded _ = true
+
+-- a store of a register at an offset from rsp
+pub record Stored : Type 0 where
+  pub reg : ℕ
+  pub at : ℤ
 
 -- What an object says around an instruction. The owner of code is its function, of a part (`f.cold`) its parent; the points
 -- after an instruction are those that follow it, whatever it does.
@@ -19,24 +41,55 @@ pub record Around : Type 0 where
   pub within : Bool
   -- at each point after it a hint tells a call frame, or restores what a SAVE marked (CALL, FUNC or RESTORE)
   pub hinted : Bool
-  -- it has an owner, one of whose points, of any variant, is decoded as SubSp or SpReg
+  -- it has an owner, one of whose points, of any variant, is decoded as SubSp, or as an SpReg that is neither a BackSp nor behind
+  -- a CellSp
   pub makes_room : Bool
   -- its target is the place of a returning name, whose code returns for its caller
   pub returning : Bool
   -- it is in code that switches tasks, and loads rsp from memory: a wide MOV (8B with REX.W) without a legacy prefix
   pub loads_stack : Bool
+  -- an edge of it leads to a point at which the register that it sets from rsp is held
+  pub kept : Bool
+  -- the register that it puts into rsp is a copy of rsp on every way there, and it isn't behind a CellSp
+  pub back : Bool
+  -- r10, else r13, where it is a copy of rsp on every way there
+  pub drap : Option DrapRegister
+  -- there are points after it, and all of them put the register at which it stores rsp into rsp
+  pub to_cell : Bool
+  -- it copies rbp to this register, and a point behind it stores that through it
+  pub copies_bp : Option ℕ
+  -- it stores this register, to which each way there copies rbp right before it
+  pub stores_bp : Option Stored
+
+abbrev pub made_align : ℤ → Option DrapRegister → Op
+made_align mask None = AndSp mask
+made_align mask (Some reg) = AndDrap reg mask
+
+abbrev pub made_plain : Option ℕ → Option Stored → Op
+made_plain None None = Plain
+made_plain None (Some stored) = StoreThrough stored.reg stored.at
+made_plain (Some reg) stored = CopyBp reg
 
 -- What a program makes of a decoded operation.
 abbrev pub made : Around → Op → Op
 -- 1. a call of code that returns for its caller is a jump there; any other within a function is a push and a jump
 made around (Call rel) = if around.returning then Jmp rel true else if around.intra_call then Hop else Call rel
--- 2. in a function that makes room rbp is set as the base over room
-made around (LeaBpSp by) = if around.makes_room then LeaBpRoom by else LeaBpSp by
+-- 2. in a function that makes room rbp is set as the base over room; elsewhere it may be held as a copy of rsp
+made around (LeaBpSp by) = if around.makes_room then LeaBpRoom by else if around.kept then Keep 5 by else LeaBpSp by
 -- 3. an IRET with its function behind it goes on behind itself
 made around Iret = if around.within then IretNext else Iret
 -- 4. a way out by the system with its function behind it, where hints tell the stack again, comes back there
 made around Switch = if around.within && around.hinted then SpOther else Switch
 -- 5. where tasks are switched, rsp that is loaded is that of this task, as it left it; only rbp is another
 made around SpOther = if around.loads_stack then BpOther else SpOther
--- 6. all else is what it is decoded as
+-- 6. a register may be held as a copy of rsp, and rsp come back from it
+made around (LeaReg reg by) = if around.kept then Keep reg by else LeaReg reg by
+made around (SpReg reg) = if around.back then BackSp reg else SpReg reg
+-- 7. where rsp is aligned, r10 or r13 may hold the frame's top
+made around (AndSp mask) = made_align mask around.drap
+-- 8. where rsp is saved at the place of another stack to which it goes at once, it is saved in a cell of that stack
+made around (StoreSp reg) = if around.to_cell then CellSp reg else StoreSp reg
+-- 9. rbp may be saved through another register
+made around Plain = made_plain around.copies_bp around.stores_bp
+-- 10. all else is what it is decoded as
 made around op = op

@@ -1,14 +1,41 @@
 -- What a program makes of some decoded operations.
-use Rattle.std.specs.Prelude.{◌≡◌, Bool, true, false, pos}
-use Rattle.operation_defs.specs.declared.op.Op.TheVariants.{Plain, LeaBpSp, LeaBpRoom, SpOther, BpOther, Call, Hop, Jmp, Iret, IretNext, Switch}
-use Rattle.operation_defs.specs.Made.{Around, is_decoded, made}
+use Rattle.std.specs.Prelude.{◌≡◌, true, false, Some, None, pos, negsuc}
+use Rattle.operation_defs.specs.declared.op.DrapRegister.TheVariants.{R10}
+use Rattle.operation_defs.specs.declared.op.Op.TheVariants.{Plain, AndSp, AndDrap, LeaBpSp, LeaBpRoom, LeaReg, Keep, SpReg, BackSp, StoreSp, CellSp, CopyBp, StoreThrough, SpOther, BpOther, Call, Hop, Jmp, Iret, IretNext, Switch}
+use Rattle.operation_defs.specs.Made.{Around, has_register, is_decoded, made}
 
 -- in code of no function, and in a function with its code behind the instruction
 abbrev pub alone : Around
-alone = record { intra_call = false; within = false; hinted = true; makes_room = false; returning = false; loads_stack = false }
+alone = record {
+  intra_call = false;
+  within = false;
+  hinted = true;
+  makes_room = false;
+  returning = false;
+  loads_stack = false;
+  kept = false;
+  back = false;
+  drap = None;
+  to_cell = false;
+  copies_bp = None;
+  stores_bp = None;
+}
 
 abbrev pub in_function : Around
-in_function = record { intra_call = false; within = true; hinted = false; makes_room = false; returning = false; loads_stack = false }
+in_function = record {
+  intra_call = false;
+  within = true;
+  hinted = false;
+  makes_room = false;
+  returning = false;
+  loads_stack = false;
+  kept = false;
+  back = false;
+  drap = None;
+  to_cell = false;
+  copies_bp = None;
+  stores_bp = None;
+}
 
 pub record HasWorkedMade : Type 0 where
   -- a call is one within its function where its place is listed
@@ -31,6 +58,26 @@ pub record HasWorkedMade : Type 0 where
   pub loads_stack : made (record in_function { loads_stack = true }) SpOther ≡ BpOther
   pub other_stack : made in_function SpOther ≡ SpOther
   pub syscall_in_switch : made (record in_function { hinted = true; loads_stack = true }) Switch ≡ SpOther
+  -- a register that is held behind it keeps rsp, and rsp comes back from it; rbp too, but not where it is set as the base over room
+  pub kept : made (record in_function { kept = true }) (LeaReg 3 (pos 0)) ≡ Keep 3 (pos 0)
+  pub not_kept : made in_function (LeaReg 3 (pos 0)) ≡ LeaReg 3 (pos 0)
+  pub kept_in_rbp : made (record in_function { kept = true }) (LeaBpSp (pos 8)) ≡ Keep 5 (pos 8)
+  pub room_first : made (record in_function { kept = true; makes_room = true }) (LeaBpSp (pos 8)) ≡ LeaBpRoom (pos 8)
+  pub comes_back : made (record in_function { back = true }) (SpReg 3) ≡ BackSp 3
+  pub makes_room : made in_function (SpReg 3) ≡ SpReg 3
+  -- rsp is aligned, with the frame's top in a register
+  pub aligns : made (record in_function { drap = Some R10 }) (AndSp (negsuc 15)) ≡ AndDrap R10 (negsuc 15)
+  pub aligns_alone : made in_function (AndSp (negsuc 15)) ≡ AndSp (negsuc 15)
+  -- rsp is saved in a cell of another stack
+  pub cell : made (record in_function { to_cell = true }) (StoreSp 11) ≡ CellSp 11
+  pub store : made in_function (StoreSp 11) ≡ StoreSp 11
+  -- rbp is saved through another register
+  pub copies : made (record in_function { copies_bp = Some 2 }) Plain ≡ CopyBp 2
+  pub stores : made (record in_function { stores_bp = Some (record { reg = 2; at = pos 8 }) }) Plain ≡ StoreThrough 2 (pos 8)
+  pub plain : made in_function Plain ≡ Plain
+  -- registers by the bits of a number
+  pub has_r10 : has_register 0x400 10 ≡ true
+  pub has_no_r9 : has_register 0x400 9 ≡ false
   -- what no decoding gives
   pub hop_isnt_decoded : is_decoded Hop ≡ false
   pub room_isnt_decoded : is_decoded (LeaBpRoom (pos 0)) ≡ false

@@ -9,4 +9,7 @@ pub struct Insn {
     pub len: u8,
     /// What it does.
     pub op: Op,
+    /// The general registers that it may write, whatever its operation is: bit r tells register r. A padding Nop writes none.
+    /// More than a processor writes is harmless.
+    pub writes: u16,
 }

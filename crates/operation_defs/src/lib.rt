@@ -7,4 +7,4 @@ pub mod laws;
 mod op;
 
 pub use insn::Insn;
-pub use op::Op;
+pub use op::{DrapRegister, Op};

@@ -1,8 +1,20 @@
+/// A register through which a function may find its frame while it aligns rsp: GCC's dynamic realign argument pointer.
+#[derive(Clone, Copy, PartialEq, Eq, PartialOrd, Ord)]
+pub enum DrapRegister {
+    /// Register 10.
+    R10,
+    /// Register 13.
+    R13,
+}
+
 /// What an instruction does to rsp, rbp, the stack and the flow of control (Intel SDM, volume 2).
 ///
-/// Decoding gives every operation but three: `Hop`, `LeaBpRoom` and `IretNext`. They are what a program makes of a
-/// decoded `Call`, `LeaBpSp` and `Iret`. Of another `Call` it makes a wide `Jmp`, of some `Switch` an `SpOther`, and of
+/// Decoding gives every operation but nine: `Hop`, `LeaBpRoom`, `IretNext`, `Keep`, `BackSp`, `AndDrap`, `CellSp`,
+/// `CopyBp` and `StoreThrough`. They are what a program makes of some decoded `Call`, `LeaBpSp`, `Iret`, `LeaReg`, `SpReg`,
+/// `AndSp`, `StoreSp` and `Plain`. Of another `Call` it makes a wide `Jmp`, of some `Switch` an `SpOther`, and of
 /// some `SpOther` a `BpOther`: by what the object says around the instruction (`specs/Made.antt` says when).
+///
+/// General registers are told by their numbers: 0 to 15 for rax, rcx, rdx, rbx, rsp, rbp, rsi, rdi, r8 to r15.
 ///
 /// Encodings are given by opcode and ModRM digit. ADD, SUB, AND, LEA, MOV and IRET are meant with
 /// REX.W where an operation names them. Those that address memory by rsp or rbp have that base alone,
@@ -12,20 +24,26 @@
 /// counts from the instruction's end.
 #[derive(Clone, Copy, PartialEq, Eq)]
 pub enum Op {
-    /// None of the others: writes neither rsp nor rbp, may store, and goes on. An emulated instruction, behind a
-    /// hypervisor's mark, is one too.
+    /// None of the others: writes neither rsp, rbp, r10 nor r13, may store, and goes on. An emulated instruction, behind a
+    /// hypervisor's mark, is one too, or a `RegOther`.
     Plain,
+    /// None of the others, as `Plain`, but writes r10, r13 or both in another way than those named below.
+    RegOther { r10: bool, r13: bool },
     /// Does nothing: NOP (90 without REX.B, and 0F 1F), and the padding of a replacement.
     Nop,
     /// Does nothing, and marks a target of indirect branches: ENDBR32 and ENDBR64 (F3 0F 1E FB, FA).
     Endbr,
-    /// Pushes 8 bytes that aren't rbp: PUSH of another register (rsp is one), of memory, of an
+    /// Pushes 8 bytes that aren't rbp, r10 or r13: PUSH of another register (rsp is one), of memory, of an
     /// immediate, of FS and of GS, and PUSHF.
     Push,
+    /// Pushes r10 or r13, as a register.
+    PushReg { reg: DrapRegister },
     /// Pushes rbp, as a register.
     PushBp,
-    /// Pops 8 bytes into a register that is neither rsp nor rbp, into memory, FS or GS.
+    /// Pops 8 bytes into a register that is none of rsp, rbp, r10 and r13, into memory, FS or GS.
     Pop,
+    /// Pops r10 or r13, as a register.
+    PopReg { reg: DrapRegister },
     /// Pops rbp, as a register.
     PopBp,
     /// Pops the flags, and with them the access flag AC: POPF.
@@ -35,6 +53,9 @@ pub enum Op {
     AddSp { by: i64 },
     /// Masks rsp: AND of an immediate (81 and 83, /4).
     AndSp { mask: i64 },
+    /// An `AndSp` at which r10 or r13 may hold the frame's top: a copy of rsp that was made on every way there. Where it does,
+    /// the frame is found through it from here on (GCC's dynamic realign argument pointer).
+    AndDrap { reg: DrapRegister, mask: i64 },
     /// Sets rsp to rbp plus `by`: LEA of rsp from rbp and a displacement, and MOV of rbp to rsp, where
     /// `by` is 0.
     LeaSpBp { by: i64 },
@@ -44,23 +65,46 @@ pub enum Op {
     /// A `LeaBpSp` of a function that makes room below its frame: where rbp becomes the base of the frame, the
     /// depth of rsp is from here on told as a lower bound, so that it is the same whether room was made or not.
     LeaBpRoom { by: i64 },
+    /// Sets a register that is neither rsp nor rbp to rsp plus `by`: LEA of it from rsp and a displacement, and MOV of rsp
+    /// to it, where `by` is 0.
+    LeaReg { reg: u8, by: i64 },
+    /// A `LeaReg`, or a `LeaBpSp` (5 is rbp), behind which the register is held as a copy of rsp: it is read as rsp further on,
+    /// and is a copy on every way there.
+    Keep { reg: u8, by: i64 },
+    /// Sets rsp to r10 or r13 plus `by`: LEA of rsp from it and a displacement.
+    LeaSpReg { reg: DrapRegister, by: i64 },
+    /// Loads r10 or r13 from rbp plus `at`: MOV (8B).
+    LoadReg { reg: DrapRegister, at: i64 },
     /// Subtracts a register, not rsp, from rsp: SUB (29, 2B). That it makes room, so that rsp doesn't rise, is a
     /// premise of the stack machine.
     SubSp,
     /// Sets rsp to a register that is neither rsp nor rbp: MOV (89, 8B). That it makes room, so that rsp doesn't
-    /// rise, is a premise of the stack machine.
-    SpReg,
+    /// rise, is a premise of the stack machine, but behind a `CellSp`: there it goes to another stack.
+    SpReg { reg: u8 },
+    /// An `SpReg` of a register that is a copy of rsp on every way there: rsp comes back.
+    BackSp { reg: u8 },
+    /// Stores rsp at a register that is none of rsp, rbp, r12 and r13: MOV (89), without a displacement.
+    StoreSp { reg: u8 },
+    /// A `StoreSp` behind which rsp is set to the same register at once: rsp is saved at the place of another stack to which it
+    /// goes. That this stack isn't in use is a premise of the stack machine.
+    CellSp { reg: u8 },
+    /// Pops rsp, as a register.
+    PopSp,
     /// Stores rbp at rsp plus `at`: MOV (89).
     StoreBp { at: i64 },
+    /// Copies rbp to a register, right in front of a `StoreThrough` of it: else a `Plain`.
+    CopyBp { reg: u8 },
+    /// Stores a register at rsp plus `at` to which a `CopyBp` copied rbp right before it: so it stores rbp.
+    StoreThrough { reg: u8, at: i64 },
     /// Loads rbp from rsp plus `at`: MOV (8B).
     LoadBp { at: i64 },
     /// Sets rsp to rbp, then pops rbp: LEAVE.
     Leave,
-    /// Writes rsp, ESP, SP or SPL in another way, as ENTER and POP of rsp do. It may write rbp besides,
+    /// Writes rsp, ESP, SP or SPL in another way, as ENTER does. It may write rbp and other registers besides,
     /// and store. So does a way out by the system that comes back right behind itself, with the words that a walk
     /// needs and user access as they were: that it does so is a premise of whoever takes a `Switch` for one.
     SpOther,
-    /// Writes rbp, EBP, BP or BPL in another way, and not rsp. It may store. So does a load of rsp by which tasks are
+    /// Writes rbp, EBP, BP or BPL in another way, and not rsp. It may write other registers besides, and store. So does a load of rsp by which tasks are
     /// switched, as the task that is switched away sees it: that rsp is as it left it is a premise of whoever takes an
     /// `SpOther` for one.
     BpOther,
