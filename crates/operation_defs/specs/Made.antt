@@ -1,9 +1,10 @@
 -- What decoding gives, and what a program makes of it.
-use Rattle.std.specs.Prelude.{ℕ, ◌^◌, ◌/◌, ◌%◌, ◌==◌, Bool, true, false, ◌&&◌, Option, Some, None, if◌then◌else◌, ℤ}
+use Rattle.std.specs.Prelude.{ℕ, ◌^◌, ◌/◌, ◌%◌, ◌==◌, Bool, true, false, ◌&&◌, ◌||◌, Option, Some, None, if◌then◌else◌, ℤ}
+use Rattle.operation_defs.specs.declared.insn.Insn.{Insn}
 use Rattle.operation_defs.specs.declared.op.DrapRegister.{DrapRegister}
 use Rattle.operation_defs.specs.declared.op.DrapRegister.TheVariants.{R10, R13}
 use Rattle.operation_defs.specs.declared.op.Op.{Op}
-use Rattle.operation_defs.specs.declared.op.Op.TheVariants.{Plain, AndSp, AndDrap, LeaBpSp, LeaBpRoom, LeaReg, Keep, SpReg, BackSp, StoreSp, CellSp, CopyBp, StoreThrough, SpOther, BpOther, Call, Hop, Jmp, Iret, IretNext, Switch}
+use Rattle.operation_defs.specs.declared.op.Op.TheVariants.{Plain, PopBp, AndSp, AndDrap, LeaBpSp, LeaBpRoom, LeaReg, Keep, SpReg, BackSp, StoreSp, CellSp, CopyBp, StoreThrough, LoadBp, Leave, SpOther, BpOther, Call, Hop, Jmp, Iret, IretNext, Switch}
 
 -- the number of a register among the general ones
 abbrev pub register_of : DrapRegister → ℕ
@@ -13,6 +14,21 @@ register_of R13 = 13
 -- whether a set of registers, by the bits of a number, has one
 abbrev pub has_register : ℕ → ℕ → Bool
 has_register registers r = (registers / 2 ^ r) % 2 == 1
+
+-- whether an operation sets rbp, or may give it any value, and leaves rsp to be told
+abbrev pub sets_bp : Op → Bool
+sets_bp PopBp = true
+sets_bp (LeaBpSp by) = true
+sets_bp (LeaBpRoom by) = true
+sets_bp (LoadBp at) = true
+sets_bp Leave = true
+sets_bp BpOther = true
+sets_bp (Keep reg by) = reg == 5
+sets_bp _ = false
+
+-- whether an instruction may write a general register; 5 is rbp
+abbrev pub may_write : Insn → ℕ → Bool
+may_write insn r = has_register insn.writes r || (sets_bp insn.op && (r == 5))
 
 -- Whether decoding may give an operation. Nine come from a program alone.
 abbrev pub is_decoded : Op → Bool

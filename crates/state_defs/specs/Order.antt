@@ -4,9 +4,14 @@ use Rattle.state_defs.specs.declared.state.Depth.{Depth}
 use Rattle.state_defs.specs.declared.state.Depth.TheVariants.{Known, AtLeast}
 use Rattle.state_defs.specs.declared.state.BpHome.{BpHome}
 use Rattle.state_defs.specs.declared.state.BpHome.TheVariants.{Same, Saved}
+use Rattle.state_defs.specs.declared.state.SpCopy.{SpCopy}
+use Rattle.state_defs.specs.declared.state.Phase.{Phase}
+use Rattle.state_defs.specs.declared.state.Phase.TheVariants.{Bare, Pushed, Framed, Homed}
 use Rattle.state_defs.specs.declared.state.EndKind.TheVariants.{Undefined, EndOfStack}
 use Rattle.state_defs.specs.declared.state.State.{State}
-use Rattle.state_defs.specs.declared.state.State.TheVariants.{Live, Ended, Regs}
+use Rattle.state_defs.specs.declared.state.State.TheVariants.{Live, Ended, Regs, Poised, Switched, Drap}
+use Rattle.operation_defs.specs.declared.op.DrapRegister.{DrapRegister}
+use Rattle.operation_defs.specs.Made.{register_of}
 
 -- A state as the list of its parts: for each part the place of its variant, and its number.
 abbrev pub depth_key : Depth → List ℤ
@@ -25,11 +30,28 @@ abbrev pub joined : List ℤ → List ℤ → List ℤ
 joined [] ys = ys
 joined (x ∷ xs) ys = x ∷ joined xs ys
 
+abbrev pub copy_key : Option SpCopy → List ℤ
+copy_key None = pos 0 ∷ []
+copy_key (Some copy) = pos 1 ∷ pos copy.reg ∷ depth_key copy.depth
+
+abbrev pub flag_key : Bool → ℤ
+flag_key false = pos 0
+flag_key true = pos 1
+
+abbrev pub phase_key : Phase → List ℤ
+phase_key (Bare depth) = pos 0 ∷ depth ∷ []
+phase_key (Pushed size) = pos 1 ∷ size ∷ []
+phase_key (Framed size) = pos 2 ∷ size ∷ []
+phase_key (Homed size home) = pos 3 ∷ size ∷ home ∷ []
+
 abbrev pub state_key : State → List ℤ
-state_key (Live depth fp bp) = pos 0 ∷ joined (depth_key depth) (joined (fp_key fp) (home_key bp))
+state_key (Live depth fp bp copy) = pos 0 ∷ joined (depth_key depth) (joined (fp_key fp) (joined (home_key bp) (copy_key copy)))
 state_key (Ended Undefined) = pos 1 ∷ pos 0 ∷ []
 state_key (Ended EndOfStack) = pos 1 ∷ pos 1 ∷ []
-state_key (Regs full depth) = pos 2 ∷ (if full then pos 1 else pos 0) ∷ depth ∷ []
+state_key (Regs full depth trap) = pos 2 ∷ flag_key full ∷ depth ∷ flag_key trap ∷ []
+state_key (Poised depth fp bp) = pos 3 ∷ joined (depth_key depth) (joined (fp_key fp) (home_key bp))
+state_key (Switched depth bp fp) = pos 4 ∷ depth ∷ joined (home_key bp) (fp_key fp)
+state_key (Drap reg phase) = pos 5 ∷ pos (register_of reg) ∷ phase_key phase
 
 -- whether a list of numbers comes before another: at the first place where they differ
 abbrev pub key_before : List ℤ → List ℤ → Bool

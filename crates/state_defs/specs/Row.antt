@@ -1,15 +1,19 @@
 -- The row of an ORC table that a state has (Linux 6.6, `orc_types.h`), with its offsets as whole
 -- numbers.
-use Rattle.std.specs.Prelude.{ℕ, Bool, true, false, ◌&&◌, Option, Some, None, if◌then◌else◌, ℤ, pos, negsuc, neg_ℤ, int_le}
+use Rattle.std.specs.Prelude.{ℕ, Bool, true, false, ◌&&◌, not, Option, Some, None, if◌then◌else◌, ℤ, pos, negsuc, neg_ℤ, int_le}
 use Rattle.ot_base.specs.declared.row.Row.{Row}
-use Rattle.ot_base.specs.declared.codes.TheConstants.{REG_UNDEFINED, REG_PREV_SP, REG_BP, REG_SP, KIND_UNDEFINED, KIND_END_OF_STACK, KIND_CALL, KIND_REGS, KIND_REGS_PARTIAL}
+use Rattle.ot_base.specs.declared.codes.TheConstants.{REG_UNDEFINED, REG_PREV_SP, REG_BP, REG_SP, REG_R10, REG_R13, REG_BP_INDIRECT, REG_SP_INDIRECT, KIND_UNDEFINED, KIND_END_OF_STACK, KIND_CALL, KIND_REGS, KIND_REGS_PARTIAL}
 use Rattle.state_defs.specs.declared.state.Depth.{Depth}
 use Rattle.state_defs.specs.declared.state.BpHome.{BpHome}
 use Rattle.state_defs.specs.declared.state.BpHome.TheVariants.{Same, Saved}
+use Rattle.operation_defs.specs.declared.op.DrapRegister.{DrapRegister}
+use Rattle.operation_defs.specs.declared.op.DrapRegister.TheVariants.{R10, R13}
+use Rattle.state_defs.specs.declared.state.Phase.{Phase}
+use Rattle.state_defs.specs.declared.state.Phase.TheVariants.{Bare, Pushed, Framed, Homed}
 use Rattle.state_defs.specs.declared.state.EndKind.{EndKind}
 use Rattle.state_defs.specs.declared.state.EndKind.TheVariants.{Undefined, EndOfStack}
 use Rattle.state_defs.specs.declared.state.State.{State}
-use Rattle.state_defs.specs.declared.state.State.TheVariants.{Live, Ended, Regs}
+use Rattle.state_defs.specs.declared.state.State.TheVariants.{Live, Ended, Regs, Poised, Switched, Drap}
 use Rattle.state_defs.specs.State.{depth_of}
 pub use Rattle.ot_base.specs.Rows.{zero_row}
 
@@ -35,10 +39,30 @@ abbrev pub end_number : EndKind → ℕ
 end_number Undefined = KIND_UNDEFINED
 end_number EndOfStack = KIND_END_OF_STACK
 
+-- in a call frame, by rsp or rbp
+abbrev pub live_row : Depth → Option ℤ → BpHome → Row
+live_row depth fp bp = record { sp_offset = sp_offset_of depth fp; bp_offset = bp_offset_of bp; sp_reg = sp_reg_of fp; bp_reg = bp_reg_of bp; kind = KIND_CALL; signal = false }
+
+-- While rsp is aligned, the frame's top is in a register, or in a word that is counted from rbp; the caller's rbp is in rbp, or in
+-- the word at rbp.
+abbrev pub drap_reg : DrapRegister → ℕ
+drap_reg R10 = REG_R10
+drap_reg R13 = REG_R13
+
+abbrev pub drap_row : DrapRegister → Phase → Row
+drap_row reg (Bare depth) = record { sp_offset = pos 0; bp_offset = pos 0; sp_reg = drap_reg reg; bp_reg = REG_UNDEFINED; kind = KIND_CALL; signal = false }
+drap_row reg (Pushed size) = record { sp_offset = pos 0; bp_offset = pos 0; sp_reg = drap_reg reg; bp_reg = REG_UNDEFINED; kind = KIND_CALL; signal = false }
+drap_row reg (Framed size) = record { sp_offset = pos 0; bp_offset = pos 0; sp_reg = drap_reg reg; bp_reg = REG_BP; kind = KIND_CALL; signal = false }
+drap_row reg (Homed size home) = record { sp_offset = neg_ℤ home; bp_offset = pos 0; sp_reg = REG_BP_INDIRECT; bp_reg = REG_BP; kind = KIND_CALL; signal = false }
+
 abbrev pub row_of : State → Row
-row_of (Live depth fp bp) = record { sp_offset = sp_offset_of depth fp; bp_offset = bp_offset_of bp; sp_reg = sp_reg_of fp; bp_reg = bp_reg_of bp; kind = KIND_CALL; signal = false }
+row_of (Live depth fp bp copy) = live_row depth fp bp
 row_of (Ended kind) = record { sp_offset = pos 0; bp_offset = pos 0; sp_reg = REG_UNDEFINED; bp_reg = REG_UNDEFINED; kind = end_number kind; signal = false }
-row_of (Regs full depth) = record { sp_offset = depth; bp_offset = pos 0; sp_reg = REG_SP; bp_reg = REG_UNDEFINED; kind = if full then KIND_REGS else KIND_REGS_PARTIAL; signal = true }
+row_of (Regs full depth trap) = record { sp_offset = depth; bp_offset = pos 0; sp_reg = REG_SP; bp_reg = REG_UNDEFINED; kind = if full then KIND_REGS else KIND_REGS_PARTIAL; signal = not trap }
+row_of (Poised depth fp bp) = live_row depth fp bp
+-- on another stack the word at rsp, and the depth that it had there, tell the frame's top
+row_of (Switched depth bp fp) = record { sp_offset = depth; bp_offset = bp_offset_of bp; sp_reg = REG_SP_INDIRECT; bp_reg = bp_reg_of bp; kind = KIND_CALL; signal = false }
+row_of (Drap reg phase) = drap_row reg phase
 
 -- whether an offset has 16 bits, as the format wants it
 abbrev pub has_16_bits : ℤ → Bool

@@ -1,36 +1,49 @@
 -- What a move promises of the machine.
-use Rattle.std.specs.Prelude.{◌≡◌, List, ◌∷◌, None, Ok, ◌≤◌}
+use Rattle.std.specs.Prelude.{◌≡◌, ℕ, ◌⊎◌, Bool, true, false, List, ◌∷◌, None, Ok, ◌≤◌, ℤ}
+use Rattle.operation_defs.specs.declared.insn.Insn.{Insn}
 use Rattle.operation_defs.specs.declared.op.Op.{Op}
+use Rattle.operation_defs.specs.declared.op.Op.TheVariants.{Keep, StoreThrough}
+use Rattle.operation_defs.specs.Made.{may_write}
 use Rattle.state_defs.specs.declared.state.State.{State}
-use Rattle.state_defs.specs.Region.{hi_of}
-use Rattle.state_defs.specs.Frame.{Frame, listed, AreKept, LieAbove}
-use Rattle.state_defs.specs.Effect.{Core, IsInStack, HasSignedNumber, Effect}
-use Rattle.state_defs.specs.State.{ended_by, IsConsistent, Means}
+use Rattle.state_defs.specs.Frame.{HoldsBp, Frame, listed, AreKept, LieAbove}
+use Rattle.state_defs.specs.Effect.{Core, IsInStack, HasSignedNumber, Effect, SparesRegisters}
+use Rattle.state_defs.specs.State.{ended_by, held_by, IsConsistent, view_of, Means}
 use Rattle.state_defs.specs.Move.{move}
 
 -- A state is true of registers and memory whose top frame is f, over the frames below: it means them;
--- the top frame ends in the stack; its protected slots lie at or above rsp and hold their values; those
--- of the frames below it that a walk is to find lie at or above its top, and hold theirs.
+-- the top frame ends in the stack in which it was made; those of its protected slots that lie in the stack in use lie at or above
+-- rsp, and all hold their values, as do those of the frames below it that are listed; and the latter lie at or above its top,
+-- where they lie in its stack.
 pub record IsTold (s : State) (core : Core) (f : Frame) (below : List Frame) : Type 0 where
   pub frames : core.shadow ≡ f ∷ below
-  pub means : Means s core.rsp core.rbp f
-  pub top : f.cfa ≤ hi_of core.region
-  pub kept : AreKept core.rsp core.region (f ∷ listed f.ended_caller below)
-  pub above : LieAbove f.cfa (listed f.ended_caller below)
+  pub means : Means s (view_of core) f (listed f.ended_caller below)
+  pub top : f.cfa ≤ f.stack.hi
+  pub kept : AreKept core.stack core.rsp core.memory (f ∷ listed f.ended_caller below)
+  pub above : LieAbove f.stack f.cfa (listed f.ended_caller below)
 
--- nothing in a frame but its slot has changed
+-- nothing in a frame but what it keeps has changed
 pub record IsSameFrame (before after : Frame) : Type 0 where
-  pub same : after ≡ record before { slot = after.slot }
+  pub same : after ≡ record before { slot = after.slot; cell = after.cell; told = after.told }
+
+-- Registers that are held behind an instruction: each of them it doesn't write, or it has put rsp into it.
+abbrev pub HoldsBehind : Insn → (ℕ → Bool) → Type 0
+HoldsBehind insn held = (r : ℕ) → held r ≡ true → (may_write insn r ≡ false) ⊎ ((by : ℤ) × (insn.op ≡ Keep r by))
+
+-- where a register is stored to which rbp was copied, it was copied right before
+abbrev pub HasCopied : Insn → Core → Type 0
+HasCopied insn core = (reg : ℕ) (at : ℤ) → insn.op ≡ StoreThrough reg at → core.held ≡ HoldsBp reg
 
 -- Moves are sound: from registers and memory that a consistent state is true of, in a stack that no
--- hint has ended, each effect of an operation that stays in the stack ends in ones that the moved state
--- is true of. The frames below are as they were, and so is the top frame but for its slot.
+-- hint has ended, each effect of an instruction that stays in the stack ends in ones that the moved state
+-- is true of, with the copy of rsp that is held behind it. The frames below are as they were, and so is the top frame but for what
+-- it keeps.
 abbrev pub MoveIsSound : Type 0
 MoveIsSound =
-    (s t : State) (op : Op) (before after : Core) (f : Frame) (below : List Frame)
-    → IsConsistent s → ended_by s ≡ None → HasSignedNumber op → move s op ≡ Ok t
-    → IsInStack before → IsTold s before f below → Effect op before after → IsInStack after
-    → (g : Frame) × IsSameFrame f g × IsTold t after g below
+    (s t : State) (insn : Insn) (held : ℕ → Bool) (before after : Core) (f : Frame) (below : List Frame)
+    → IsConsistent s → ended_by s ≡ None → HasSignedNumber insn.op → move s insn.op ≡ Ok t
+    → HoldsBehind insn held → HasCopied insn before
+    → IsInStack before → IsTold s before f below → Effect insn.op before after → SparesRegisters insn before after → IsInStack after
+    → (g : Frame) × IsSameFrame f g × IsTold (held_by held t) after g below
 
 -- a move keeps states consistent, and from ended to ended
 abbrev pub MoveIsConsistent : Type 0

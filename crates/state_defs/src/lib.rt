@@ -6,4 +6,4 @@
 pub mod laws;
 mod state;
 
-pub use state::{BpHome, Depth, EndKind, HintState, State};
+pub use state::{BpHome, Depth, EndKind, HintState, Phase, SpCopy, State};
