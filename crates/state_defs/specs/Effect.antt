@@ -9,7 +9,7 @@ use Rattle.operation_defs.specs.declared.op.Op.TheVariants.{Plain, RegOther, Nop
 use Rattle.operation_defs.specs.Made.{may_write, register_of}
 use Rattle.state_defs.specs.Address.{up, down, shifted}
 use Rattle.state_defs.specs.Region.{Memory, Stack, IsStackOf, LiesIn, AreStacks, Reads, WritesOnly, WritesWord, Stores}
-use Rattle.state_defs.specs.Frame.{Held, HoldsNothing, HoldsCell, HoldsBp, Registers, Slot, Told, Untold, Frame, Protected, is_of_call, protected_addresses, LieOutside, loaded_slot, popped_slot, is_unsaved, with_top_slot, after_save, with_top_cell, with_top_told, top_stack, cells, aligned_told, pushed_told, read_told, is_top_told_in}
+use Rattle.state_defs.specs.Frame.{Held, HoldsNothing, HoldsCell, HoldsBp, Registers, number_in, Slot, Told, Untold, Frame, Protected, is_of_call, protected_addresses, LieOutside, loaded_slot, popped_slot, is_unsaved, with_top_slot, after_save, with_top_cell, with_top_told, top_stack, cells, aligned_told, pushed_told, read_told, is_top_told_in}
 
 -- what an operation acts on: the registers, the stacks in memory and the one of them that is in use, what the instruction before
 -- has left for this one, whether user access is on, and the shadow call stack, the top frame first
@@ -155,7 +155,7 @@ Effect (LeaSpReg reg by) c d = MatchBool (is_top_told_in reg c.shadow) (d ≡ re
 Effect (LoadReg reg at) c d = Reads c.memory (shifted c.rbp at) (d.registers (register_of reg)) × (d ≡ record (acted c d) { shadow = with_top_told (read_told reg (shifted c.rbp at)) c.shadow })
 Effect SubSp c d = MakesRoom c d
 Effect (SpReg reg) c d = GoesTo c.held c d
-Effect (BackSp reg) c d = d ≡ record (acted c d) { rsp = c.registers reg }
+Effect (BackSp reg) c d = d ≡ record (acted c d) { rsp = number_in c.rbp c.registers reg }
 Effect (StoreSp reg) c d = StoresAlone c d
 Effect (CellSp reg) c d = MatchBool (may_switch c.shadow) (SavesInCell c d) (StoresAlone c d)
 Effect PopSp c d = MatchBool (is_at_cell c.rsp c.shadow) (Reads c.memory c.rsp d.rsp × (d ≡ record (acted c d) { rsp = d.rsp; stack = top_stack c.stack c.shadow; shadow = with_top_cell None c.shadow })) (WritesPointers c d)

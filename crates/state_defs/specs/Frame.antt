@@ -41,6 +41,10 @@ pub data Held : Type 0 where
 abbrev pub Registers : Type 0
 Registers = ℕ → ℕ
 
+-- the number in a general register but rsp, where rbp (5) stands apart
+abbrev pub number_in : ℕ → Registers → ℕ → ℕ
+number_in rbp registers r = if r == 5 then rbp else registers r
+
 -- a word of memory that a walk needs: its address, and the value that it holds
 pub record Protected : Type 0 where
   pub at : ℕ

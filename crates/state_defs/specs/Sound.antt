@@ -5,7 +5,7 @@ use Rattle.operation_defs.specs.declared.op.Op.{Op}
 use Rattle.operation_defs.specs.declared.op.Op.TheVariants.{Keep, StoreThrough}
 use Rattle.operation_defs.specs.Made.{may_write}
 use Rattle.state_defs.specs.declared.state.State.{State}
-use Rattle.state_defs.specs.Frame.{HoldsBp, Frame, listed, AreKept, LieAbove}
+use Rattle.state_defs.specs.Frame.{Held, HoldsBp, Frame, listed, AreKept, LieAbove}
 use Rattle.state_defs.specs.Effect.{Core, IsInStack, HasSignedNumber, Effect, SparesRegisters}
 use Rattle.state_defs.specs.State.{ended_by, held_by, IsConsistent, view_of, Means}
 use Rattle.state_defs.specs.Move.{move}
@@ -30,8 +30,8 @@ abbrev pub HoldsBehind : Insn → (ℕ → Bool) → Type 0
 HoldsBehind insn held = (r : ℕ) → held r ≡ true → (may_write insn r ≡ false) ⊎ ((by : ℤ) × (insn.op ≡ Keep r by))
 
 -- where a register is stored to which rbp was copied, it was copied right before
-abbrev pub HasCopied : Insn → Core → Type 0
-HasCopied insn core = (reg : ℕ) (at : ℤ) → insn.op ≡ StoreThrough reg at → core.held ≡ HoldsBp reg
+abbrev pub HasCopied : Insn → Held → Type 0
+HasCopied insn held = (reg : ℕ) (at : ℤ) → insn.op ≡ StoreThrough reg at → held ≡ HoldsBp reg
 
 -- Moves are sound: from registers and memory that a consistent state is true of, in a stack that no
 -- hint has ended, each effect of an instruction that stays in the stack ends in ones that the moved state
@@ -41,7 +41,7 @@ abbrev pub MoveIsSound : Type 0
 MoveIsSound =
     (s t : State) (insn : Insn) (held : ℕ → Bool) (before after : Core) (f : Frame) (below : List Frame)
     → IsConsistent s → ended_by s ≡ None → HasSignedNumber insn.op → move s insn.op ≡ Ok t
-    → HoldsBehind insn held → HasCopied insn before
+    → HoldsBehind insn held → HasCopied insn before.held
     → IsInStack before → IsTold s before f below → Effect insn.op before after → SparesRegisters insn before after → IsInStack after
     → (g : Frame) × IsSameFrame f g × IsTold (held_by held t) after g below
 

@@ -1,5 +1,5 @@
 -- What is known of the stack before an instruction, and what that means.
-use Rattle.std.specs.Prelude.{◌≡◌, ℕ, ◌+◌, ◌≤◌, ◌==◌, Bool, true, false, List, [], ◌∷◌, Option, Some, None, IfSome, IsSome, IsTrue, if◌then◌else◌, ℤ, pos, negsuc, neg_ℤ, ◌≤ℤ◌, ◌+ℤ◌}
+use Rattle.std.specs.Prelude.{◌≡◌, ℕ, ◌+◌, ◌≤◌, Bool, true, false, List, [], ◌∷◌, Option, Some, None, IfSome, IsSome, IsTrue, if◌then◌else◌, ℤ, pos, negsuc, neg_ℤ, ◌≤ℤ◌, ◌+ℤ◌}
 use Rattle.operation_defs.specs.declared.op.DrapRegister.{DrapRegister}
 use Rattle.operation_defs.specs.Made.{register_of}
 use Rattle.state_defs.specs.declared.state.Depth.{Depth}
@@ -14,7 +14,7 @@ use Rattle.state_defs.specs.declared.state.State.{State}
 use Rattle.state_defs.specs.declared.state.State.TheVariants.{Live, Ended, Regs, Poised, Switched, Drap}
 use Rattle.state_defs.specs.Address.{shifted}
 use Rattle.state_defs.specs.Region.{Stack}
-use Rattle.state_defs.specs.Frame.{Registers, Held, HoldsCell, HoldsNothing, Slot, Unsaved, SavedAt, PartialAt, FullAt, Told, Untold, ToldIn, ToldAt, Frame, Mark, listed, LieAbove, LieOutside}
+use Rattle.state_defs.specs.Frame.{Registers, number_in, Held, HoldsCell, HoldsNothing, Slot, Unsaved, SavedAt, PartialAt, FullAt, Told, Untold, ToldIn, ToldAt, Frame, Mark, listed, LieAbove, LieOutside}
 use Rattle.state_defs.specs.Effect.{Core}
 
 -- the number in a depth
@@ -78,7 +78,7 @@ view_at mark = record { rsp = mark.rsp; rbp = mark.rbp; registers = mark.registe
 
 -- the number in a general register but rsp; 5 is rbp
 abbrev pub register_in : View → ℕ → ℕ
-register_in v r = if r == 5 then v.rbp else v.registers r
+register_in v r = number_in v.rbp v.registers r
 
 -- How the registers belong to a frame's top and its caller's rbp.
 
