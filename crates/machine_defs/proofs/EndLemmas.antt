@@ -2,7 +2,7 @@
 use Rattle.std.proofs.Common.{◌≡◌, ℕ, Bool, true, false, Option, Some, None, refl, sym, ◌∙◌}
 use Rattle.state_defs.specs.declared.state.EndKind.{EndKind}
 use Rattle.state_defs.specs.declared.state.State.{State}
-use Rattle.state_defs.specs.declared.state.State.TheVariants.{Live, Ended, Regs}
+use Rattle.state_defs.specs.declared.state.State.TheVariants.{Live, Ended, Regs, Poised, Switched, Drap}
 use Rattle.machine_defs.specs.Program.{Program}
 use Rattle.machine_defs.specs.Kept.{Kept, AreKeptStates}
 use Rattle.machine_defs.specs.Machine.{Standing}
@@ -49,9 +49,12 @@ module _ (p : Program) (s t : Standing) where
 
     loose_end : p.loose s.point ≡ true → (o : Option State) → states t.point ≡ o → (ended : Option EndKind) × IsTheEnd p s t ended
     loose_end loose None is = (s.ended, of_kept loose (no_end None is (λ kind e. let k : ⊥ = cc in k)))
-    loose_end loose (Some (Live depth fp bp)) is = (s.ended, of_kept loose (no_end (Some (Live depth fp bp)) is (λ kind e. let k : ⊥ = cc in k)))
+    loose_end loose (Some (Live depth fp bp copy)) is = (s.ended, of_kept loose (no_end (Some (Live depth fp bp copy)) is (λ kind e. let k : ⊥ = cc in k)))
     loose_end loose (Some (Ended kind)) is = (Some kind, of_lost kind loose ((told t.point (Ended kind)).0 is))
-    loose_end loose (Some (Regs full depth)) is = (s.ended, of_kept loose (no_end (Some (Regs full depth)) is (λ kind e. let k : ⊥ = cc in k)))
+    loose_end loose (Some (Regs full depth trap)) is = (s.ended, of_kept loose (no_end (Some (Regs full depth trap)) is (λ kind e. let k : ⊥ = cc in k)))
+    loose_end loose (Some (Poised depth fp bp)) is = (s.ended, of_kept loose (no_end (Some (Poised depth fp bp)) is (λ kind e. let k : ⊥ = cc in k)))
+    loose_end loose (Some (Switched depth bp fp)) is = (s.ended, of_kept loose (no_end (Some (Switched depth bp fp)) is (λ kind e. let k : ⊥ = cc in k)))
+    loose_end loose (Some (Drap reg phase)) is = (s.ended, of_kept loose (no_end (Some (Drap reg phase)) is (λ kind e. let k : ⊥ = cc in k)))
 
     pub end_is_told : (loose : Bool) → p.loose s.point ≡ loose → (ended : Option EndKind) × IsTheEnd p s t ended
     end_is_told false e = (s.ended, of_firm e)

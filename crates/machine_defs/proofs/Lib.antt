@@ -1,13 +1,2 @@
 pub mod KeptLemmas
 pub mod EndLemmas
-pub mod WorkedRun
-pub mod WorkedSteps
-pub mod WorkedWrecks
-pub mod WorkedHints
-pub mod WorkedWays
-pub mod WorkedWarnings
-pub mod WorkedAccessOff
-pub mod WorkedAccess
-pub mod WorkedSites
-pub mod WorkedLoose
-pub mod WorkedHoles

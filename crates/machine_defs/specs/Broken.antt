@@ -3,17 +3,17 @@
 use Rattle.std.specs.Prelude.{◌≡◌, ◌≢◌, ℕ, ◌+◌, ◌-◌, ◌<◌, ◌≤◌, ◌⊎◌, ◌↔◌, ◌&&◌, ◌||◌, Bool, true, false, Some, None, Err, Contains, ℤ, pos}
 use Rattle.ot_base.specs.declared.place.Place.{Place}
 use Rattle.ot_base.specs.declared.options.Options.{Options}
-use Rattle.ot_base.specs.declared.rules.TheConstants.{BAD_BRANCH_TARGET, FALLS_THROUGH, RUNS_OFF_SECTION, STATE_MISMATCH, MODIFIED_RETURN, MODIFIED_SIBLING_CALL, UNSUPPORTED_SP_WRITE, OFFSET_OUT_OF_RANGE, ALTERNATIVES_DISAGREE, JUMP_INTO_SITE, UNREACHABLE_INSTRUCTION, EXIT_NOT_ALLOWED, CALL_INTO_FUNCTION, FUNCTION_WITHOUT_SIZE, RESTORE_WITHOUT_SAVE, RELOCATED_STACK_OFFSET, CALL_WITHOUT_FRAME}
+use Rattle.ot_base.specs.declared.rules.TheConstants.{BAD_BRANCH_TARGET, FALLS_THROUGH, RUNS_OFF_SECTION, STATE_MISMATCH, MODIFIED_RETURN, MODIFIED_SIBLING_CALL, UNSUPPORTED_SP_WRITE, STACK_POINTER_LOST, OFFSET_OUT_OF_RANGE, ALTERNATIVES_DISAGREE, JUMP_INTO_SITE, UNREACHABLE_INSTRUCTION, EXIT_NOT_ALLOWED, CALL_INTO_FUNCTION, FUNCTION_WITHOUT_SIZE, RESTORE_WITHOUT_SAVE, RELOCATED_STACK_OFFSET, CALL_WITHOUT_FRAME}
 use Rattle.operation_defs.specs.declared.op.Op.{Op}
 use Rattle.operation_defs.specs.declared.op.Op.TheVariants.{Nop, RetImm, Iret, Switch, Ud2, Int3}
 use Rattle.machine_defs.specs.declared.flow.Edge.{Edge}
-use Rattle.machine_defs.specs.declared.flow.EdgeKind.TheVariants.{Next, Taken, Sibling}
+use Rattle.machine_defs.specs.declared.flow.EdgeKind.TheVariants.{Next, Taken, Fixup, Sibling}
 use Rattle.machine_defs.specs.declared.flow.Role.TheVariants.{Return, JumpOut, JumpAny}
 use Rattle.state_defs.specs.declared.state.State.{State}
 use Rattle.state_defs.specs.declared.state.HintState.TheVariants.{Restore}
 use Rattle.state_defs.specs.Row.{row_of, unfit_offset}
-use Rattle.state_defs.specs.Rules.{is_followed, return_rule, sibling_rule, switch_rule, iret_rule, call_rule, depth_number}
-use Rattle.machine_defs.specs.Program.{Program, IsPoint, Site, in_site, entry_points, is_call_op, edge}
+use Rattle.state_defs.specs.Rules.{is_followed, return_rule, sibling_rule, switch_rule, iret_rule, call_rule, may_fault, may_call, depth_number}
+use Rattle.machine_defs.specs.Program.{Program, IsPoint, Site, in_site, entry_points, is_call_op, is_looked_up_behind, edge}
 use Rattle.machine_defs.specs.Ways.{is_before_hint, may_leave}
 use Rattle.machine_defs.specs.IsProgram.{IsProgram, HintsStandAtPoints}
 use Rattle.machine_defs.specs.Kept.{edges_of, moved_at, Brings, is_free, Kept, NotKept, Path}
@@ -69,12 +69,15 @@ pub data Warns (p : Program) : Place → ℕ → ℤ → ℤ → Type 0 where
   -- 7, 8, 9, 10, 11, 15. the operation breaks the rule in its state, and the code isn't loose, or the rule is 10 or 15; rsp may be
   -- written in any way right before a hint
   refused : (q rule : ℕ) (s : State) → Kept p q s → moved_at p q s ≡ Err rule → (rule ≡ UNSUPPORTED_SP_WRITE → is_before_hint p q ≡ false) → Warns p (p.place q) rule (pos 0) (pos 0)
+  -- 9. it may fault, or it calls, where the stack can't be told beside that
+  faults_between : (q r : ℕ) (s : State) → Kept p q s → Contains (edges_of p q) (edge r Fixup) → may_fault s ≡ false → Warns p (p.place q) STACK_POINTER_LOST (pos 0) (pos 0)
+  calls_between : (q : ℕ) (s : State) → Kept p q s → is_call_op (p.insn q).op ≡ true → may_call s ≡ false → Warns p (p.place q) STACK_POINTER_LOST (pos 0) (pos 0)
   -- 10. an offset of the state's row doesn't fit
   unfit : (q : ℕ) (s : State) (a : ℤ) → Kept p q s → unfit_offset s ≡ Some a → Warns p (p.place q) OFFSET_OUT_OF_RANGE a (pos 0)
   -- 12. two variants of a site have different rows where both have an instruction
   variants_disagree : (site : Site) (q r : ℕ) (s t : State) → KeptInSite p site q s → KeptInSite p site r t → p.address q ≡ p.address r → row_of s ≢ row_of t → Warns p site.start ALTERNATIVES_DISAGREE (pos (offset_in site (p.address q).off)) (pos 0)
-  -- 12. the row in force at the last byte of a call in a site isn't the call's
-  call_disagrees : (site : Site) (q r : ℕ) (s t : State) → KeptInSite p site q s → is_call_op (p.insn q).op ≡ true → IsInForce p site (last_byte p q) r t → row_of t ≢ row_of s → Warns p site.start ALTERNATIVES_DISAGREE (pos (offset_in site (last_byte p q))) (pos 0)
+  -- 12. the row in force at the last byte of a call or breakpoint in a site isn't its own
+  call_disagrees : (site : Site) (q r : ℕ) (s t : State) → KeptInSite p site q s → is_looked_up_behind (p.insn q).op ≡ true → IsInForce p site (last_byte p q) r t → row_of t ≢ row_of s → Warns p site.start ALTERNATIVES_DISAGREE (pos (offset_in site (last_byte p q))) (pos 0)
   -- 13. a target lies inside a site, of whose original code it isn't
   into_site : (q : ℕ) (s : State) → Kept p q s → (p.marks q).into_site ≡ true → Warns p (p.place q) JUMP_INTO_SITE (pos 0) (pos 0)
   -- 15. a return, a way to another function or a context switch stands where it isn't allowed; some code may leave anywhere

@@ -1,19 +1,20 @@
 -- What the unwinding law asks of a program beyond its type. Each of these facts holds of every program
 -- that is read from an object.
-use Rattle.std.specs.Prelude.{◌≡◌, ◌≢◌, ℕ, ◌+◌, ◌<◌, ◌≤◌, ◌⊎◌, ◌↔◌, true, false, Some, None, Contains, AllPairs}
+use Rattle.std.specs.Prelude.{◌≡◌, ◌≢◌, ℕ, ◌+◌, ◌<◌, ◌≤◌, ◌⊎◌, ◌↔◌, true, false, Some, None, Contains, AllPairs, ℤ}
 use Rattle.ot_base.specs.declared.place.Place.{Place}
-use Rattle.operation_defs.specs.declared.op.Op.TheVariants.{RetImm}
+use Rattle.operation_defs.specs.declared.op.Op.TheVariants.{CopyBp, Int3, Keep, RetImm, StoreThrough}
 use Rattle.machine_defs.specs.declared.flow.Edge.{Edge}
-use Rattle.machine_defs.specs.declared.flow.EdgeKind.TheVariants.{Next, Sibling}
+use Rattle.machine_defs.specs.declared.flow.EdgeKind.TheVariants.{Fixup, Next, Sibling}
 use Rattle.machine_defs.specs.declared.flow.Role.TheVariants.{CallIn, CallEither, Return}
 use Rattle.state_defs.specs.declared.state.State.{State}
 use Rattle.state_defs.specs.declared.state.HintState.{HintState}
-use Rattle.state_defs.specs.declared.state.HintState.TheVariants.{Set}
+use Rattle.state_defs.specs.declared.state.HintState.TheVariants.{Restore, Set}
 use Rattle.state_defs.specs.Effect.{HasSignedNumber}
 use Rattle.state_defs.specs.State.{IsConsistent}
-use Rattle.machine_defs.specs.Program.{Program, TextSection, Site, IsPoint, in_site, entry_points, is_call, is_call_op, edge}
+use Rattle.machine_defs.specs.Program.{Program, TextSection, Site, IsPoint, in_site, entry_points, is_call, is_call_op, is_local, loses, edge}
 use Rattle.machine_defs.specs.Ways.{MayCall}
 use Rattle.machine_defs.specs.MayReturn.{MayReturn}
+use Rattle.machine_defs.specs.Kept.{is_at_entry}
 
 -- what a call inside the program may go to: an entry, or what code of no function may call
 abbrev pub IsCallee : Program → ℕ → ℕ → Type 0
@@ -42,6 +43,17 @@ pub record IsProgram (p : Program) : Type 0 where
   pub calls : (q : ℕ) → IsPoint p q → is_call (p.role q) ≡ true → is_call_op (p.insn q).op ≡ true
   pub call_next : (q r : ℕ) → IsPoint p q → p.unchecked q ≡ false → is_call (p.role q) ≡ true → p.dead_end q ≡ false → Contains (p.after q) r → Contains (p.goes q) (edge r Next)
   pub returns : (q : ℕ) → IsPoint p q → (p.insn q).op ≡ RetImm → (p.role q ≡ Return) × (p.names q ≡ None)
+  -- the points that follow a breakpoint which execution passes are its next points, and stand right behind it
+  pub breakpoint_next : (q r : ℕ) → IsPoint p q → p.unchecked q ≡ false → (p.insn q).op ≡ Int3 → p.dead_end q ≡ false → Contains (p.after q) r → Contains (p.goes q) (edge r Next)
+  pub behind_breakpoint : (q r : ℕ) → IsPoint p q → (p.insn q).op ≡ Int3 → p.dead_end q ≡ false → Contains (p.after q) r → p.address r ≡ record { sec = (p.address q).sec; off = (p.address q).off + (p.insn q).len }
+  -- A register that is held at a point to which an instruction goes on was kept by that, or not lost; none is held at a fixup, nor at a
+  -- RESTORE.
+  pub holds : (q r : ℕ) (e : Edge) → IsPoint p q → Contains (p.goes q) e → is_local e.kind ≡ true → p.held e.to r ≡ true → (loses (p.insn q) r ≡ false) ⊎ ((by : ℤ) × ((p.insn q).op ≡ Keep r by))
+  pub fixups_hold : (q r : ℕ) (e : Edge) → IsPoint p q → Contains (p.goes q) e → e.kind ≡ Fixup → p.held e.to r ≡ false
+  pub restores_hold : (q r : ℕ) → IsPoint p q → p.hint q ≡ Some Restore → p.held q r ≡ false
+  -- where a register is stored as a copy of rbp, there is no hint, no entry is entered, and each way there copies rbp right before
+  pub copied : (q reg : ℕ) (at : ℤ) → IsPoint p q → (p.insn q).op ≡ StoreThrough reg at → (p.hint q ≡ None) × (is_at_entry p q ≡ false)
+  pub copies : (a reg : ℕ) (at : ℤ) (e : Edge) → IsPoint p a → Contains (p.goes a) e → (p.insn e.to).op ≡ StoreThrough reg at → (e.kind ≡ Next) × ((p.insn a).op ≡ CopyBp reg)
   -- numbers in operations have 64 bits, and states that hints set are consistent
   pub numbers : (q : ℕ) → IsPoint p q → HasSignedNumber (p.insn q).op
   pub hints : (q : ℕ) (s : State) → IsPoint p q → p.hint q ≡ Some (Set s) → IsConsistent s

@@ -1,5 +1,5 @@
 -- The state that a checker keeps for each point, by levels.
-use Rattle.std.specs.Prelude.{◌≡◌, ◌↔◌, ℕ, zero, suc, ◌+◌, Bool, true, false, ◌||◌, List, [], ◌∷◌, Option, Some, None, Result, Ok, Err, ◌==◌, filter, flat_map, if◌then◌else◌, option_and_then, Contains}
+use Rattle.std.specs.Prelude.{◌≡◌, ◌↔◌, ℕ, zero, suc, ◌+◌, Bool, true, false, ◌||◌, List, [], ◌∷◌, Option, Some, None, Result, Ok, Err, ◌==◌, filter, map, flat_map, if◌then◌else◌, option_map, option_and_then, Contains}
 use Rattle.std.specs.List.{list_any}
 use Rattle.ot_base.specs.declared.rules.TheConstants.{UNSUPPORTED_SP_WRITE, BP_NOT_SAVED, STACK_POINTER_LOST, SAVED_SLOT_DROPPED}
 use Rattle.machine_defs.specs.declared.flow.Edge.{Edge}
@@ -10,7 +10,7 @@ use Rattle.state_defs.specs.declared.state.State.{State}
 use Rattle.state_defs.specs.declared.state.State.TheVariants.{Ended}
 use Rattle.state_defs.specs.declared.state.HintState.{HintState}
 use Rattle.state_defs.specs.declared.state.HintState.TheVariants.{Set, Save, Restore}
-use Rattle.state_defs.specs.State.{initial}
+use Rattle.state_defs.specs.State.{initial, held_by}
 use Rattle.state_defs.specs.Order.{least}
 use Rattle.state_defs.specs.Move.{move}
 use Rattle.machine_defs.specs.Program.{Program, entry_points, below}
@@ -47,7 +47,7 @@ loosened true (Err rule) = if loses_stack rule then Ok (Ended Undefined) else Er
 abbrev pub moved_at : Program → ℕ → State → Result State ℕ
 moved_at p q s = loosened (p.loose q) (move s (p.insn q).op)
 
--- what a state is brought along an edge as, where its move is told: to a fixup the state before the instruction, else the one
+-- What a state is brought along an edge as, where its move is told: to a fixup the state before the instruction, else the one
 -- after it; to another function none
 abbrev pub brought_along : State → Result State ℕ → EdgeKind → List State
 brought_along s after Next = moved after
@@ -57,8 +57,9 @@ brought_along s after Table = moved after
 brought_along s after Sibling = []
 
 -- the states that point a with state s brings to point q
+-- with the copy of rsp alone that is held there
 abbrev pub brought_by : Program → ℕ → State → ℕ → List State
-brought_by p a s q = flat_map (λ e. brought_along s (moved_at p a s) e.kind) (filter (λ e. e.to == q) (edges_of p a))
+brought_by p a s q = map (held_by (p.held q)) (flat_map (λ e. brought_along s (moved_at p a s) e.kind) (filter (λ e. e.to == q) (edges_of p a)))
 
 abbrev pub Brings : Program → ℕ → State → ℕ → State → Type 0
 Brings p a s q t = Contains (brought_by p a s q) t
@@ -83,10 +84,10 @@ first_state p q (Some Save) = if is_at_entry p q then Some initial else None
 first_state p q None = if is_at_entry p q then Some initial else None
 
 -- A further level, for a point that isn't kept yet: the least state that the kept points bring to it,
--- or at a RESTORE the state of its SAVE.
+-- or at a RESTORE the state of its SAVE, with the copy of rsp that is held there.
 abbrev pub later_state : Program → (ℕ → Option State) → ℕ → Option HintState → Option State
 later_state p states q (Some (Set s)) = None
-later_state p states q (Some Restore) = option_and_then states (p.save_of q)
+later_state p states q (Some Restore) = option_map (held_by (p.held q)) (option_and_then states (p.save_of q))
 later_state p states q (Some Save) = least (brought p states q)
 later_state p states q None = least (brought p states q)
 

@@ -10,17 +10,7 @@ pub mod Hint
 pub mod Step
 pub mod Run
 pub mod Law
-pub mod Worked
-pub mod WorkedSteps
-pub mod WorkedWrecks
-pub mod WorkedHints
-pub mod WorkedWays
-pub mod WorkedWarnings
-pub mod WorkedSites
-pub mod WorkedLoose
-pub mod WorkedHoles
 pub mod Allowances
 pub mod Access
 pub mod AccessRules
 pub mod Asked
-pub mod WorkedAccess

@@ -2,7 +2,7 @@
 use Rattle.std.specs.Prelude.{◌≡◌, ℕ, ◌+◌, ◌^◌, ◌<◌, ◌≤◌, ◌⊎◌, List, Option, map, Contains}
 use Rattle.ot_base.specs.declared.place.Place.{Place}
 use Rattle.state_defs.specs.declared.state.EndKind.{EndKind}
-use Rattle.state_defs.specs.Frame.{Frame, Mark, listed, end_of}
+use Rattle.state_defs.specs.Frame.{Ending, Frame, Mark, listed, found, end_of}
 use Rattle.state_defs.specs.Effect.{Core}
 use Rattle.machine_defs.specs.Program.{Program, TextSection}
 
@@ -29,7 +29,7 @@ abbrev pub IsOutside : Program → Bases → ℕ → Type 0
 IsOutside p bases address = (text : TextSection) → Contains p.texts text → (address < bases text.sec) ⊎ (bases text.sec + text.size ≤ address)
 
 -- A state in which the machine stands at a point, its instruction not yet executed: the registers,
--- the stack in memory and the shadow call stack; how the stack has ended, if a hint ended it, or loose
+-- the stacks in memory and the shadow call stack; how the stack has ended, if a hint ended it, or loose
 -- code lost it; and the last SAVE hint passed on this level.
 pub record Standing : Type 0 where
   pub point : ℕ
@@ -60,10 +60,10 @@ walked f = record { ra = f.ra; cfa = f.cfa; bp = f.bp }
 
 -- the frames of a state, the innermost first: those of the shadow call stack, call frames and
 -- interrupt frames alike, down to the first place whose hint ended the stack, or from which on loose
--- code has lost it
+-- code has lost it, or to the first frame whose address is in a register alone, which is left out
 abbrev pub frames : Standing → List WalkedFrame
-frames s = map walked (listed s.ended s.core.shadow)
+frames s = map walked (found (listed s.ended s.core.shadow))
 
--- how the stack has ended where they are empty or cut
-abbrev pub frames_end : Standing → Option EndKind
+-- what ends them
+abbrev pub frames_end : Standing → Ending
 frames_end s = end_of s.ended s.core.shadow

@@ -1,13 +1,14 @@
 -- A program as the stack machine and the checker see it: a control-flow graph over numbered points.
 -- A point is an instruction of the object's code (variant 0), or one of a replacement that may be
 -- patched over an alternatives site (variant k for the k-th replacement). It mentions no byte of a file.
-use Rattle.std.specs.Prelude.{ℕ, zero, suc, ◌<◌, Bool, true, false, List, [], ◌∷◌, ◌++◌, Option}
+use Rattle.std.specs.Prelude.{ℕ, zero, suc, ◌<◌, ◌==◌, ◌&&◌, ◌||◌, not, nat_le, if◌then◌else◌, Bool, true, false, List, [], ◌∷◌, ◌++◌, Option}
 use Rattle.ot_base.specs.declared.place.Place.{Place}
 use Rattle.ot_base.specs.Places.{is_within}
 pub use Rattle.ot_base.specs.Section.{TextSection}
 use Rattle.operation_defs.specs.declared.op.Op.{Op}
-use Rattle.operation_defs.specs.declared.op.Op.TheVariants.{Call, CallInd}
+use Rattle.operation_defs.specs.declared.op.Op.TheVariants.{Call, CallInd, Int3}
 use Rattle.operation_defs.specs.declared.insn.Insn.{Insn}
+use Rattle.operation_defs.specs.Made.{may_write}
 use Rattle.machine_defs.specs.declared.flow.Edge.{Edge}
 use Rattle.machine_defs.specs.declared.flow.EdgeKind.{EdgeKind}
 use Rattle.machine_defs.specs.declared.flow.EdgeKind.TheVariants.{Next, Taken, Fixup, Table, Sibling}
@@ -86,6 +87,9 @@ pub record Program : Type 0 where
   -- Execution doesn't go on behind it, unless a static branch stands there: a Ud2, or an instruction that ends at
   -- a place of `.discard.unreachable`, where no place of `.discard.reachable` is that end.
   pub dead_end : ℕ → Bool
+  -- Whether a register is held at a point: it is read as rsp further on, and on every way there it is a copy of rsp. Only where it
+  -- is held a state tells a copy in it.
+  pub held : ℕ → ℕ → Bool
   -- What is wrong with where it goes (`Marks`).
   pub marks : ℕ → Marks
   -- The points that follow a point, whatever it does: `arrive` of the boundary behind a plain point; the next
@@ -147,6 +151,23 @@ abbrev pub is_call_op : Op → Bool
 is_call_op (Call rel) = true
 is_call_op CallInd = true
 is_call_op _ = false
+
+-- whether an instruction is a breakpoint
+abbrev pub is_breakpoint : Op → Bool
+is_breakpoint Int3 = true
+is_breakpoint _ = false
+
+-- Whether a walk looks at the last byte of an instruction: control comes back behind it, from a call or a breakpoint.
+abbrev pub is_looked_up_behind : Op → Bool
+is_looked_up_behind op = is_call_op op || is_breakpoint op
+
+-- the registers that what is called gives back: rbx, rbp and r12 to r15
+abbrev pub is_given_back : ℕ → Bool
+is_given_back r = r == 3 || (r == 5 || (nat_le 12 r && nat_le r 15))
+
+-- Whether an instruction loses what a register held: a call but for those that are given back, any other where it writes it.
+abbrev pub loses : Insn → ℕ → Bool
+loses insn r = if is_call_op insn.op then not (is_given_back r) else may_write insn r
 
 -- an edge of this kind leads to this point
 abbrev pub edge : ℕ → EdgeKind → Edge

@@ -3,7 +3,7 @@
 -- or not, an indirect branch may go to any of its targets, and an interrupt may come anywhere.
 use Rattle.std.specs.Prelude.{Option, ◌≡◌, ◌≢◌, ℕ, ◌+◌, ◌-◌, ◌%◌, ◌⊎◌, ◌&&◌, ◌||◌, Bool, true, false, not, List, [], ◌∷◌, Some, None, is_some, Contains, IsTrue, pos, if◌then◌else◌}
 use Rattle.operation_defs.specs.declared.op.Op.{Op}
-use Rattle.operation_defs.specs.declared.op.Op.TheVariants.{SubSp, SpReg, SpOther, RetImm, Iret}
+use Rattle.operation_defs.specs.declared.op.Op.TheVariants.{AndSp, AndDrap, SubSp, SpReg, BackSp, StoreSp, CellSp, SpOther, RetImm, Iret, Int3}
 use Rattle.machine_defs.specs.declared.flow.EdgeKind.{EdgeKind}
 use Rattle.machine_defs.specs.declared.flow.EdgeKind.TheVariants.{Fixup, Sibling}
 use Rattle.machine_defs.specs.declared.flow.Role.{Role}
@@ -13,10 +13,10 @@ use Rattle.state_defs.specs.declared.state.State.{State}
 use Rattle.state_defs.specs.declared.state.State.TheVariants.{Ended, Regs}
 use Rattle.state_defs.specs.declared.state.HintState.TheVariants.{Set}
 use Rattle.state_defs.specs.Address.{up, down}
-use Rattle.state_defs.specs.Region.{Region, Reads, WritesOnly, WritesWord, Stores}
-use Rattle.state_defs.specs.Frame.{Unsaved, PartialAt, is_of_call, Frame, protected_addresses}
-use Rattle.state_defs.specs.Effect.{Core, StoresOrdinarily, Effect}
-use Rattle.machine_defs.specs.Program.{Program, IsPoint, Site, in_site, entry_points, edge, is_local}
+use Rattle.state_defs.specs.Region.{Memory, Reads, WritesOnly, WritesWord, Stores}
+use Rattle.state_defs.specs.Frame.{Held, HoldsNothing, HoldsCell, HoldsBp, Registers, Unsaved, PartialAt, Untold, is_of_call, Frame, protected_addresses}
+use Rattle.state_defs.specs.Effect.{Core, acted, StoresAlone, SparesRegisters, Effect}
+use Rattle.machine_defs.specs.Program.{Program, IsPoint, Site, in_site, entry_points, edge, is_local, is_given_back}
 use Rattle.machine_defs.specs.MayReturn.{is_listed}
 use Rattle.machine_defs.specs.Kept.{Kept, AreKeptStates}
 use Rattle.machine_defs.specs.Ways.{is_before_hint, may_call_out, may_leave}
@@ -28,17 +28,31 @@ pub record SameLevel (before after : Standing) : Type 0 where
   pub ended : after.ended ≡ before.ended
   pub mark : after.mark ≡ before.mark
 
--- what makes room, as any write of rsp
-abbrev pub as_any_write : Op → Op
-as_any_write SubSp = SpOther
-as_any_write SpReg = SpOther
-as_any_write op = op
+-- what makes room, or comes back from a copy, as any write of rsp; behind a store of rsp in a cell it goes there all the same
+abbrev pub as_any_write : Held → Op → Op
+as_any_write held SubSp = SpOther
+as_any_write (HoldsCell at other) (SpReg reg) = SpReg reg
+as_any_write HoldsNothing (SpReg reg) = SpOther
+as_any_write (HoldsBp copy) (SpReg reg) = SpOther
+as_any_write held (BackSp reg) = SpOther
+as_any_write held op = op
+
+-- where the stack has ended no frame goes to another stack, and no frame's top is told in a register
+abbrev pub where_ended : Op → Op
+where_ended (CellSp reg) = StoreSp reg
+where_ended (AndDrap reg mask) = AndSp mask
+where_ended op = op
 
 -- The operation of a point as the machine executes it. Premise *registers make room*: rsp doesn't rise where a register is
 -- subtracted from it, or put into it. It is asked where the stack hasn't ended and no hint follows right behind; elsewhere such an
--- operation is any write of rsp.
+-- operation is any write of rsp, and so is a way back from a copy of rsp.
+abbrev pub op_by : Bool → Bool → Held → Op → Op
+op_by true before_hint held op = where_ended (as_any_write held op)
+op_by false true held op = as_any_write held op
+op_by false false held op = op
+
 abbrev pub op_at : Program → Standing → Op
-op_at p s = if is_some s.ended || is_before_hint p s.point then as_any_write (p.insn s.point).op else (p.insn s.point).op
+op_at p s = op_by (is_some s.ended) (is_before_hint p s.point) s.core.held (p.insn s.point).op
 
 -- The end of the stack behind an instruction that goes on: as before it, but loose code may lose the stack. Where the state that
 -- is kept behind a loose point says that the stack has ended, it has. In code that isn't loose such a state is kept only where it
@@ -64,14 +78,14 @@ pub record GoesOn (p : Program) (s t : Standing) : Type 0 where
   pub local : IsTrue (is_local kind)
   pub along : Contains (p.goes s.point) (edge t.point kind)
   pub effect : Effect (op_at p s) s.core t.core
+  pub spares : SparesRegisters (p.insn s.point) s.core t.core
   pub ended : EndedBehind p s t
   pub mark : t.mark ≡ s.mark
 
--- 2. It faults, and goes to its fixup. Ordinary stores may happen.
+-- 2. It faults, and goes to its fixup. Ordinary stores may happen, and general registers become anything.
 pub record Faults (p : Program) (s t : Standing) : Type 0 where
   pub along : Contains (p.goes s.point) (edge t.point Fixup)
-  pub stores : StoresOrdinarily s.core t.core
-  pub core : t.core ≡ record s.core { region = t.core.region }
+  pub stores : StoresAlone s.core t.core
   pub level : SameLevel s t
 
 -- the entries that a call may go to, or what code of no function calls though no function starts there
@@ -88,7 +102,13 @@ call_frame p bases s = record {
   ra = return_address p bases s.point;
   cfa = s.core.rsp;
   bp = s.core.rbp;
+  registers = s.core.registers;
+  stack = s.core.stack;
+  held = s.core.held;
   slot = Unsaved;
+  cell = None;
+  told = Untold;
+  trap = false;
   ac = s.core.ac;
   ended_caller = s.ended;
   mark_caller = s.mark;
@@ -99,19 +119,24 @@ pub record CallsIn (p : Program) (bases : Bases) (s t : Standing) : Type 0 where
   pub entry : ℕ
   pub target : IsTarget p (p.role s.point) entry
   pub arrives : Contains (entry_points p entry) t.point
-  pub pushed : WritesWord (down s.core.rsp 8) (return_address p bases s.point) s.core.region t.core.region
-  pub core : t.core ≡ record s.core { rsp = down s.core.rsp 8; region = t.core.region; shadow = call_frame p bases s ∷ s.core.shadow }
+  pub pushed : WritesWord (down s.core.rsp 8) (return_address p bases s.point) s.core.memory t.core.memory
+  pub core : t.core ≡ record s.core { rsp = down s.core.rsp 8; memory = t.core.memory; held = HoldsNothing; shadow = call_frame p bases s ∷ s.core.shadow }
   pub ended : t.ended ≡ None
   pub mark : t.mark ≡ None
 
+-- General registers that what is called gives back are these. Premise *what is called gives back rbx and r12 to r15*, in the program
+-- and outside, as it gives back rsp and rbp.
+abbrev pub GivesBack : Registers → Registers → Type 0
+GivesBack before after = (r : ℕ) → is_given_back r ≡ true → after r ≡ before r
+
 -- 4. It calls code outside, or what comes back as that does (`may_call_out`), and control comes back: rsp, rbp, user access and
--- protected slots are kept.
+-- protected slots are kept, and registers given back.
 pub record CallsOut (p : Program) (s t : Standing) : Type 0 where
   pub target : IsTrue (may_call_out p s.point)
   pub passed : p.dead_end s.point ≡ false
   pub comes_back : Contains (p.after s.point) t.point
-  pub stores : StoresOrdinarily s.core t.core
-  pub core : t.core ≡ record s.core { region = t.core.region }
+  pub stores : StoresAlone s.core t.core
+  pub given_back : GivesBack s.core.registers t.core.registers
   pub level : SameLevel s t
 
 -- whether a point may go back to the caller: by a return, or by a jump to code outside that returns. The start of an
@@ -125,7 +150,7 @@ may_go_back p _ = false
 -- the stack is as it has to be for a return from this frame
 pub record IsAtReturn (core : Core) (f : Frame) : Type 0 where
   pub of_call : is_of_call f.slot ≡ true
-  pub ra : Reads core.region core.rsp f.ra
+  pub ra : Reads core.memory core.rsp f.ra
   pub cfa : core.rsp ≡ down f.cfa 8
   pub bp : core.rbp ≡ f.bp
 
@@ -133,13 +158,13 @@ pub record IsAtReturn (core : Core) (f : Frame) : Type 0 where
 pub data MissesReturn (core : Core) : List Frame → Type 0 where
   no_return : MissesReturn core []
   return_in_interrupt : (f : Frame) (fs : List Frame) → is_of_call f.slot ≡ false → MissesReturn core (f ∷ fs)
-  other_return : (f : Frame) (fs : List Frame) (word : ℕ) → Reads core.region core.rsp word → word ≢ f.ra → MissesReturn core (f ∷ fs)
+  other_return : (f : Frame) (fs : List Frame) (word : ℕ) → Reads core.memory core.rsp word → word ≢ f.ra → MissesReturn core (f ∷ fs)
   other_depth : (f : Frame) (fs : List Frame) → core.rsp ≢ down f.cfa 8 → MissesReturn core (f ∷ fs)
   other_rbp : (f : Frame) (fs : List Frame) → core.rbp ≢ f.bp → MissesReturn core (f ∷ fs)
 
 -- memory before and after: code outside that was jumped to may store, but spares the slots of the
 -- frames that are left
-abbrev pub LeavesMemory : Role → List Frame → Region → Region → Type 0
+abbrev pub LeavesMemory : Role → List Frame → Memory → Memory → Type 0
 LeavesMemory Return frames before after = after ≡ before
 LeavesMemory _ frames before after = Stores (protected_addresses frames) before after
 
@@ -168,8 +193,9 @@ pub record Returns (p : Program) (s t : Standing) : Type 0 where
   pub unlisted : is_listed p call ≡ false
   pub still_ended : ends_run p s ≡ true → is_some frame.ended_caller ≡ true
   pub comes_back : Contains (p.after call) t.point
-  pub memory : LeavesMemory (p.role s.point) below s.core.region t.core.region
-  pub core : t.core ≡ record s.core { rsp = up s.core.rsp 8; region = t.core.region; shadow = below }
+  pub memory : LeavesMemory (p.role s.point) below s.core.memory t.core.memory
+  pub core : t.core ≡ record (acted s.core t.core) { rsp = up s.core.rsp 8; memory = t.core.memory; shadow = below }
+  pub given_back : GivesBack frame.registers t.core.registers
   pub ended : t.ended ≡ frame.ended_caller
   pub mark : t.mark ≡ frame.mark_caller
 
@@ -182,22 +208,22 @@ pub data JumpsTo (p : Program) (q : ℕ) : ℕ → Type 0 where
 pub record TailCalls (p : Program) (s t : Standing) : Type 0 where
   pub target : JumpsTo p s.point t.point
   pub followed : ends_run p s ≡ false
-  pub core : t.core ≡ s.core
+  pub core : t.core ≡ record s.core { held = HoldsNothing }
   pub level : SameLevel s t
 
 -- the stack is as it has to be for a return from this interrupt
 pub record IsAtIret (core : Core) (f : Frame) : Type 0 where
   pub of_interrupt : is_of_call f.slot ≡ false
-  pub ra : Reads core.region core.rsp f.ra
-  pub cfa : Reads core.region (up core.rsp 24) f.cfa
+  pub ra : Reads core.memory core.rsp f.ra
+  pub cfa : Reads core.memory (up core.rsp 24) f.cfa
   pub bp : core.rbp ≡ f.bp
 
 -- it may be otherwise: there is no frame, or it is a call's, or the saved address, the saved rsp or rbp is another
 pub data MissesIret (core : Core) : List Frame → Type 0 where
   no_interrupt : MissesIret core []
   iret_in_call : (f : Frame) (fs : List Frame) → is_of_call f.slot ≡ true → MissesIret core (f ∷ fs)
-  other_address : (f : Frame) (fs : List Frame) (word : ℕ) → Reads core.region core.rsp word → word ≢ f.ra → MissesIret core (f ∷ fs)
-  other_rsp : (f : Frame) (fs : List Frame) (word : ℕ) → Reads core.region (up core.rsp 24) word → word ≢ f.cfa → MissesIret core (f ∷ fs)
+  other_address : (f : Frame) (fs : List Frame) (word : ℕ) → Reads core.memory core.rsp word → word ≢ f.ra → MissesIret core (f ∷ fs)
+  other_rsp : (f : Frame) (fs : List Frame) (word : ℕ) → Reads core.memory (up core.rsp 24) word → word ≢ f.cfa → MissesIret core (f ∷ fs)
   other_interrupted_rbp : (f : Frame) (fs : List Frame) → core.rbp ≢ f.bp → MissesIret core (f ∷ fs)
 
 -- 7. Its stack is wrecked: it returns with a wrong stack, where no run ends, or goes where its marks say that there is nothing to
@@ -212,50 +238,63 @@ pub data Wrecks (p : Program) (s : Standing) : Type 0 where
   past_end : (p.marks s.point).past_end ≡ true → (p.owner s.point ≡ None → s.ended ≡ None) → Wrecks p s
 
 -- A gate: a plain point without owner, at which a hint says that the processor has just pushed ip, cs, flags, sp and ss, and an
--- error code where n is 8. It is in no site, past its start; where a site starts there, none of its replacements has a hint of
+-- error code where n is 8; for an interrupt, or for a breakpoint. It is in no site, past its start; where a site starts there, none of its replacements has a hint of
 -- its own at its first point, so that this one counts for each.
-pub record IsGate (p : Program) (gate n : ℕ) : Type 0 where
+pub record IsGate (p : Program) (gate n : ℕ) (trap : Bool) : Type 0 where
   pub point : IsPoint p gate
   pub plain : p.variant gate ≡ 0
   pub free : p.owner gate ≡ None
   pub at_start : (site : Site) → Contains p.sites site → in_site site (p.place gate) ≡ true → site.start ≡ p.place gate
   pub error_code : (n ≡ 0) ⊎ (n ≡ 8)
-  pub hint : p.hint gate ≡ Some (Set (Regs false (pos n)))
-  pub counts : (r : ℕ) → Contains (entry_points p gate) r → (r ≡ gate) ⊎ ((p.own_hint r ≡ false) × (p.hint r ≡ Some (Set (Regs false (pos n)))))
+  pub hint : p.hint gate ≡ Some (Set (Regs false (pos n) trap))
+  pub counts : (r : ℕ) → Contains (entry_points p gate) r → (r ≡ gate) ⊎ ((p.own_hint r ≡ false) × (p.hint r ≡ Some (Set (Regs false (pos n) trap))))
 
 -- where the processor puts the five words: right below rsp, rounded down to a multiple of 16
 abbrev pub interrupt_slot : ℕ → ℕ
 interrupt_slot rsp = down (rsp - rsp % 16) 40
 
+-- where an interrupt goes back to: to the instruction, or behind a breakpoint, which has been executed
+abbrev pub interrupt_address : Program → Bases → Bool → ℕ → ℕ
+interrupt_address p bases trap q = if trap then return_address p bases q else point_address p bases q
+
 -- the frame that an interrupt makes
-abbrev pub interrupt_frame : Program → Bases → Standing → Frame
-interrupt_frame p bases s = record {
+abbrev pub interrupt_frame : Program → Bases → Bool → Standing → Frame
+interrupt_frame p bases trap s = record {
   call = Some s.point;
-  ra = point_address p bases s.point;
+  ra = interrupt_address p bases trap s.point;
   cfa = s.core.rsp;
   bp = s.core.rbp;
+  registers = s.core.registers;
+  stack = s.core.stack;
+  held = s.core.held;
   slot = PartialAt (interrupt_slot s.core.rsp);
+  cell = None;
+  told = Untold;
+  trap = trap;
   ac = s.core.ac;
   ended_caller = s.ended;
   mark_caller = s.mark;
 }
 
--- 8. An interrupt comes, at any point, and goes to a gate: the address of its instruction and rsp are pushed among the
--- five words, of which the others are anything.
+-- 8. An interrupt comes, at any point, and goes to a gate for interrupts; or a breakpoint is executed, and goes to one for breakpoints:
+-- the address of its instruction, or of what follows the breakpoint, and rsp are pushed among the five words, of which the others are
+-- anything.
 pub record IsInterrupted (p : Program) (bases : Bases) (s t : Standing) : Type 0 where
   pub n : ℕ
   pub entered : ℕ
-  pub gate : IsGate p entered n
+  pub trap : Bool
+  pub breaks : trap ≡ true → (p.insn s.point).op ≡ Int3
+  pub gate : IsGate p entered n trap
   pub arrives : Contains (entry_points p entered) t.point
-  pub only : WritesOnly (down (interrupt_slot s.core.rsp) n) (n + 40) s.core.region t.core.region
-  pub ra : Reads t.core.region (interrupt_slot s.core.rsp) (point_address p bases s.point)
-  pub cfa : Reads t.core.region (up (interrupt_slot s.core.rsp) 24) s.core.rsp
-  pub core : t.core ≡ record s.core { rsp = down (interrupt_slot s.core.rsp) n; region = t.core.region; shadow = interrupt_frame p bases s ∷ s.core.shadow }
+  pub only : WritesOnly (down (interrupt_slot s.core.rsp) n) (n + 40) s.core.memory t.core.memory
+  pub ra : Reads t.core.memory (interrupt_slot s.core.rsp) (interrupt_address p bases trap s.point)
+  pub cfa : Reads t.core.memory (up (interrupt_slot s.core.rsp) 24) s.core.rsp
+  pub core : t.core ≡ record s.core { rsp = down (interrupt_slot s.core.rsp) n; memory = t.core.memory; held = HoldsNothing; shadow = interrupt_frame p bases trap s ∷ s.core.shadow }
   pub ended : t.ended ≡ None
   pub mark : t.mark ≡ None
 
 -- 9. It returns from an interrupt, to the interrupted instruction. With a frame that was there at the
--- start the run ends.
+-- start the run ends. Premise *an interrupt gives back all registers*, and what was held.
 pub record ReturnsFromInterrupt (p : Program) (s t : Standing) : Type 0 where
   pub iret : (p.insn s.point).op ≡ Iret
   pub live : s.ended ≡ None
@@ -263,21 +302,40 @@ pub record ReturnsFromInterrupt (p : Program) (s t : Standing) : Type 0 where
   pub below : List Frame
   pub shadow : s.core.shadow ≡ frame ∷ below
   pub ready : IsAtIret s.core frame
+  pub of_interrupt : frame.trap ≡ false
   pub interrupted : frame.call ≡ Some t.point
-  pub core : t.core ≡ record s.core { rsp = frame.cfa; ac = frame.ac; shadow = below }
+  pub core : t.core ≡ record s.core { rsp = frame.cfa; registers = frame.registers; held = frame.held; ac = frame.ac; shadow = below }
+  pub ended : t.ended ≡ frame.ended_caller
+  pub mark : t.mark ≡ frame.mark_caller
+
+-- Or it returns from a breakpoint, to what follows that.
+pub record ReturnsFromBreakpoint (p : Program) (s t : Standing) : Type 0 where
+  pub iret : (p.insn s.point).op ≡ Iret
+  pub live : s.ended ≡ None
+  pub frame : Frame
+  pub below : List Frame
+  pub shadow : s.core.shadow ≡ frame ∷ below
+  pub ready : IsAtIret s.core frame
+  pub of_breakpoint : frame.trap ≡ true
+  pub call : ℕ
+  pub called : frame.call ≡ Some call
+  pub passed : p.dead_end call ≡ false
+  pub comes_back : Contains (p.after call) t.point
+  pub core : t.core ≡ record s.core { rsp = frame.cfa; registers = frame.registers; held = HoldsNothing; ac = frame.ac; shadow = below }
   pub ended : t.ended ≡ frame.ended_caller
   pub mark : t.mark ≡ frame.mark_caller
 
 -- A step of the machine. A far branch or a system call has no step but those of its exception entries
 -- and of interrupts, and nor has a return from an interrupt where the stack has ended. After a return
--- from an interrupt no hint is looked at.
+-- from an interrupt no hint is looked at, but one behind a breakpoint.
 pub data Step (p : Program) (bases : Bases) : Machine → Machine → Type 0 where
-  goes_on : (s t u : Standing) → GoesOn p s t → Lands p t u → Step p bases (At s) (At u)
-  faults : (s t u : Standing) → Faults p s t → Lands p t u → Step p bases (At s) (At u)
-  calls_in : (s t u : Standing) → CallsIn p bases s t → Lands p t u → Step p bases (At s) (At u)
-  calls_out : (s t u : Standing) → CallsOut p s t → Lands p t u → Step p bases (At s) (At u)
-  returns : (s t u : Standing) → Returns p s t → Lands p t u → Step p bases (At s) (At u)
-  tail_calls : (s t u : Standing) → TailCalls p s t → Lands p t u → Step p bases (At s) (At u)
+  goes_on : (s t u : Standing) → GoesOn p s t → Lands p bases t u → Step p bases (At s) (At u)
+  faults : (s t u : Standing) → Faults p s t → Lands p bases t u → Step p bases (At s) (At u)
+  calls_in : (s t u : Standing) → CallsIn p bases s t → Lands p bases t u → Step p bases (At s) (At u)
+  calls_out : (s t u : Standing) → CallsOut p s t → Lands p bases t u → Step p bases (At s) (At u)
+  returns : (s t u : Standing) → Returns p s t → Lands p bases t u → Step p bases (At s) (At u)
+  tail_calls : (s t u : Standing) → TailCalls p s t → Lands p bases t u → Step p bases (At s) (At u)
   wrecks : (s : Standing) → Wrecks p s → Step p bases (At s) Wrecked
-  interrupted : (s t u : Standing) → IsInterrupted p bases s t → Lands p t u → Step p bases (At s) (At u)
+  interrupted : (s t u : Standing) → IsInterrupted p bases s t → Lands p bases t u → Step p bases (At s) (At u)
   irets : (s t : Standing) → ReturnsFromInterrupt p s t → Step p bases (At s) (At t)
+  irets_behind : (s t u : Standing) → ReturnsFromBreakpoint p s t → Lands p bases t u → Step p bases (At s) (At u)

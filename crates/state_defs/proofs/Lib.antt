@@ -1,3 +1,0 @@
-pub mod Worked
-pub mod WorkedBytes
-pub mod WorkedEffects

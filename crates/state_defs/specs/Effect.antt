@@ -1,15 +1,14 @@
 -- What an operation does to registers, memory and frames.
-use Rattle.std.specs.Prelude.{◌≡◌, ◌≢◌, ℕ, ◌+◌, ◌^◌, ◌<◌, ◌≤◌, Bool, true, false, ◌&&◌, is_none, List, [], ◌∷◌, ◌==◌, Option, Some, None, MatchBool, bit_and, FitsSigned, ℤ, pos, ◌+ℤ◌, int_le}
+use Rattle.std.specs.Prelude.{◌≡◌, ◌≢◌, ℕ, ◌+◌, ◌^◌, ◌<◌, ◌≤◌, Bool, true, false, ◌&&◌, is_none, List, [], ◌∷◌, ◌==◌, Some, None, MatchBool, bit_and, FitsSigned, ℤ, pos, ◌+ℤ◌, int_le}
 use Rattle.std.specs.Int.{w64}
 use Rattle.std.specs.Option.{option_map_or}
 use Rattle.operation_defs.specs.declared.insn.Insn.{Insn}
-use Rattle.operation_defs.specs.declared.op.DrapRegister.{DrapRegister}
 use Rattle.operation_defs.specs.declared.op.Op.{Op}
 use Rattle.operation_defs.specs.declared.op.Op.TheVariants.{Plain, RegOther, Nop, Endbr, Push, PushReg, PushBp, Pop, PopReg, PopBp, Popf, AddSp, AndSp, AndDrap, LeaSpBp, LeaBpSp, LeaBpRoom, LeaReg, Keep, LeaSpReg, LoadReg, SubSp, SpReg, BackSp, StoreSp, CellSp, PopSp, StoreBp, CopyBp, StoreThrough, LoadBp, Leave, SpOther, BpOther, Call, Hop, CallInd, Jmp, Jcc, JmpInd, Ret, RetImm, Iret, IretNext, Switch, Ud2, Int3, Stac, Clac}
 use Rattle.operation_defs.specs.Made.{may_write, register_of}
 use Rattle.state_defs.specs.Address.{up, down, shifted}
 use Rattle.state_defs.specs.Region.{Memory, Stack, IsStackOf, LiesIn, AreStacks, Reads, WritesOnly, WritesWord, Stores}
-use Rattle.state_defs.specs.Frame.{Held, HoldsNothing, HoldsCell, HoldsBp, Registers, number_in, Slot, Told, Untold, Frame, Protected, is_of_call, protected_addresses, LieOutside, loaded_slot, popped_slot, is_unsaved, with_top_slot, after_save, with_top_cell, with_top_told, top_stack, cells, aligned_told, pushed_told, read_told, is_top_told_in}
+use Rattle.state_defs.specs.Frame.{Held, HoldsNothing, HoldsCell, HoldsBp, Registers, number_in, Untold, Frame, is_of_call, protected_addresses, LieOutside, loaded_slot, popped_slot, is_unsaved, with_top_slot, after_save, with_top_cell, with_top_told, top_stack, cells, aligned_told, pushed_told, read_told, is_top_told_in}
 
 -- what an operation acts on: the registers, the stacks in memory and the one of them that is in use, what the instruction before
 -- has left for this one, whether user access is on, and the shadow call stack, the top frame first

@@ -8,5 +8,3 @@ pub mod Move
 pub mod Row
 pub mod Rules
 pub mod Sound
-pub mod Worked
-pub mod WorkedEffects

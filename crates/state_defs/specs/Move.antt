@@ -1,5 +1,5 @@
 -- How an operation moves a state, or which rule it breaks.
-use Rattle.std.specs.Prelude.{ℕ, ◌^◌, ◌==◌, Bool, true, false, not, ◌&&◌, ◌||◌, Option, Some, None, Result, Ok, Err, if◌then◌else◌, ℤ, pos, negsuc, neg_ℤ, ◌+ℤ◌, ◌-ℤ◌, int_lt, int_le}
+use Rattle.std.specs.Prelude.{ℕ, ◌^◌, ◌==◌, Bool, true, false, ◌&&◌, Option, Some, None, Result, Ok, Err, if◌then◌else◌, ℤ, pos, negsuc, neg_ℤ, ◌+ℤ◌, ◌-ℤ◌, int_lt, int_le}
 use Rattle.ot_base.specs.declared.rules.TheConstants.{UNSUPPORTED_SP_WRITE, BP_NOT_SAVED, STACK_POINTER_LOST, OFFSET_OUT_OF_RANGE, SAVED_SLOT_DROPPED, EXIT_NOT_ALLOWED}
 use Rattle.operation_defs.specs.declared.op.DrapRegister.{DrapRegister}
 use Rattle.operation_defs.specs.declared.op.DrapRegister.TheVariants.{R10, R13}

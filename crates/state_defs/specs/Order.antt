@@ -10,7 +10,6 @@ use Rattle.state_defs.specs.declared.state.Phase.TheVariants.{Bare, Pushed, Fram
 use Rattle.state_defs.specs.declared.state.EndKind.TheVariants.{Undefined, EndOfStack}
 use Rattle.state_defs.specs.declared.state.State.{State}
 use Rattle.state_defs.specs.declared.state.State.TheVariants.{Live, Ended, Regs, Poised, Switched, Drap}
-use Rattle.operation_defs.specs.declared.op.DrapRegister.{DrapRegister}
 use Rattle.operation_defs.specs.Made.{register_of}
 
 -- A state as the list of its parts: for each part the place of its variant, and its number.

@@ -1,6 +1,6 @@
 -- The row of an ORC table that a state has (Linux 6.6, `orc_types.h`), with its offsets as whole
 -- numbers.
-use Rattle.std.specs.Prelude.{ℕ, Bool, true, false, ◌&&◌, not, Option, Some, None, if◌then◌else◌, ℤ, pos, negsuc, neg_ℤ, int_le}
+use Rattle.std.specs.Prelude.{ℕ, Bool, false, ◌&&◌, not, Option, Some, None, if◌then◌else◌, ℤ, pos, negsuc, neg_ℤ, int_le}
 use Rattle.ot_base.specs.declared.row.Row.{Row}
 use Rattle.ot_base.specs.declared.codes.TheConstants.{REG_UNDEFINED, REG_PREV_SP, REG_BP, REG_SP, REG_R10, REG_R13, REG_BP_INDIRECT, REG_SP_INDIRECT, KIND_UNDEFINED, KIND_END_OF_STACK, KIND_CALL, KIND_REGS, KIND_REGS_PARTIAL}
 use Rattle.state_defs.specs.declared.state.Depth.{Depth}

@@ -14,7 +14,7 @@ use Rattle.state_defs.specs.declared.state.State.{State}
 use Rattle.state_defs.specs.declared.state.State.TheVariants.{Live, Ended, Regs, Poised, Switched, Drap}
 use Rattle.state_defs.specs.Address.{shifted}
 use Rattle.state_defs.specs.Region.{Stack}
-use Rattle.state_defs.specs.Frame.{Registers, number_in, Held, HoldsCell, HoldsNothing, Slot, Unsaved, SavedAt, PartialAt, FullAt, Told, Untold, ToldIn, ToldAt, Frame, Mark, listed, LieAbove, LieOutside}
+use Rattle.state_defs.specs.Frame.{Registers, number_in, Held, HoldsCell, Slot, Unsaved, SavedAt, PartialAt, FullAt, Told, Untold, ToldIn, ToldAt, Frame, Mark, listed, LieAbove, LieOutside}
 use Rattle.state_defs.specs.Effect.{Core}
 
 -- the number in a depth

@@ -7,7 +7,7 @@ use Rattle.state_defs.specs.declared.state.State.{State}
 use Rattle.state_defs.specs.declared.state.State.TheVariants.{Ended}
 use Rattle.state_defs.specs.Address.{down}
 use Rattle.state_defs.specs.Row.{row_of}
-use Rattle.machine_defs.specs.Program.{Program, is_call}
+use Rattle.machine_defs.specs.Program.{Program, is_looked_up_behind}
 use Rattle.machine_defs.specs.Machine.{Bases, point_address, return_address}
 use Rattle.machine_defs.specs.Kept.{Kept}
 use Rattle.table_defs.specs.declared.range.Range.{Range}
@@ -19,11 +19,11 @@ use Rattle.table_defs.specs.Visited.{IsVisited}
 abbrev pub TellsState : State → Option Row → Type 0
 TellsState state found = (found ≡ Some (row_of state)) ⊎ ((state ≡ Ended Undefined) × (found ≡ None))
 
--- The state of a point is told at the point's address, and of a call also at the call's last byte: there a
--- walk looks, since the call may be the last instruction of its function.
+-- The state of a point is told at the point's address, and of a call or breakpoint also at its last byte: there a
+-- walk looks, since it may be the last instruction of its function.
 pub record TellsPoint (p : Program) (bases : Bases) (rows : List PlacedRow) (ranges : List Range) (q : ℕ) (state : State) : Type 0 where
   pub at : TellsState state (find_row rows ranges (point_address p bases q))
-  pub last_byte : is_call (p.role q) ≡ true → TellsState state (find_row rows ranges (down (return_address p bases q) 1))
+  pub last_byte : is_looked_up_behind (p.insn q).op ≡ true → TellsState state (find_row rows ranges (down (return_address p bases q) 1))
 
 -- The table tells the kept state of each point to which runs come.
 abbrev pub TellsStates : Program → Bases → List PlacedRow → List Range → Type 0
