@@ -2,10 +2,11 @@
 -- that is read from an object.
 use Rattle.std.specs.Prelude.{◌≡◌, ◌≢◌, ℕ, ◌+◌, ◌<◌, ◌≤◌, ◌⊎◌, ◌↔◌, true, false, Some, None, Contains, AllPairs, ℤ}
 use Rattle.ot_base.specs.declared.place.Place.{Place}
-use Rattle.operation_defs.specs.declared.op.Op.TheVariants.{CopyBp, Int3, Keep, RetImm, StoreThrough}
+use Rattle.operation_defs.specs.declared.op.Op.TheVariants.{CopyBp, Int3, RetImm, StoreThrough}
 use Rattle.machine_defs.specs.declared.flow.Edge.{Edge}
 use Rattle.machine_defs.specs.declared.flow.EdgeKind.TheVariants.{Fixup, Next, Sibling}
 use Rattle.machine_defs.specs.declared.flow.Role.TheVariants.{CallIn, CallEither, Return}
+use Rattle.operation_defs.specs.Made.{follows}
 use Rattle.state_defs.specs.declared.state.State.{State}
 use Rattle.state_defs.specs.declared.state.HintState.{HintState}
 use Rattle.state_defs.specs.declared.state.HintState.TheVariants.{Restore, Set}
@@ -14,7 +15,7 @@ use Rattle.state_defs.specs.State.{IsConsistent}
 use Rattle.machine_defs.specs.Program.{Program, TextSection, Site, IsPoint, in_site, entry_points, is_call, is_call_op, is_local, loses, edge}
 use Rattle.machine_defs.specs.Ways.{MayCall}
 use Rattle.machine_defs.specs.MayReturn.{MayReturn}
-use Rattle.machine_defs.specs.Kept.{is_at_entry}
+use Rattle.machine_defs.specs.Kept.{edges_of, is_at_entry}
 
 -- what a call inside the program may go to: an entry, or what code of no function may call
 abbrev pub IsCallee : Program → ℕ → ℕ → Type 0
@@ -46,9 +47,9 @@ pub record IsProgram (p : Program) : Type 0 where
   -- the points that follow a breakpoint which execution passes are its next points, and stand right behind it
   pub breakpoint_next : (q r : ℕ) → IsPoint p q → p.unchecked q ≡ false → (p.insn q).op ≡ Int3 → p.dead_end q ≡ false → Contains (p.after q) r → Contains (p.goes q) (edge r Next)
   pub behind_breakpoint : (q r : ℕ) → IsPoint p q → (p.insn q).op ≡ Int3 → p.dead_end q ≡ false → Contains (p.after q) r → p.address r ≡ record { sec = (p.address q).sec; off = (p.address q).off + (p.insn q).len }
-  -- A register that is held at a point to which an instruction goes on was kept by that, or not lost; none is held at a fixup, nor at a
+  -- A register that is held at a point to which an instruction goes on was set by that from rsp, or not lost; none is held at a fixup, nor at a
   -- RESTORE.
-  pub holds : (q r : ℕ) (e : Edge) → IsPoint p q → Contains (p.goes q) e → is_local e.kind ≡ true → p.held e.to r ≡ true → (loses (p.insn q) r ≡ false) ⊎ ((by : ℤ) × ((p.insn q).op ≡ Keep r by))
+  pub holds : (q r : ℕ) (e : Edge) → IsPoint p q → Contains (edges_of p q) e → is_local e.kind ≡ true → p.held e.to r ≡ true → (loses (p.insn q) r ≡ false) ⊎ (follows (p.insn q).op r ≡ true)
   pub fixups_hold : (q r : ℕ) (e : Edge) → IsPoint p q → Contains (p.goes q) e → e.kind ≡ Fixup → p.held e.to r ≡ false
   pub restores_hold : (q r : ℕ) → IsPoint p q → p.hint q ≡ Some Restore → p.held q r ≡ false
   -- where a register is stored as a copy of rbp, there is no hint, no entry is entered, and each way there copies rbp right before

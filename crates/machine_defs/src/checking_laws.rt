@@ -11,4 +11,3 @@ pub fn kept_stays()
 pub fn kept_is_one()
     ensures { KeptIsOne }
 {}
-

@@ -6,4 +6,3 @@ ghost use Rattle.machine_defs.specs.Step.{EndIsTold};
 pub fn end_is_told()
     ensures { EndIsTold }
 {}
-

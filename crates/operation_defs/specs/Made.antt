@@ -30,6 +30,12 @@ sets_bp _ = false
 abbrev pub may_write : Insn → ℕ → Bool
 may_write insn r = has_register insn.writes r || (sets_bp insn.op && (r == 5))
 
+-- whether an operation sets a register from rsp, which states follow: a register that is kept, or rbp as the base over room
+abbrev pub follows : Op → ℕ → Bool
+follows (Keep reg by) r = reg == r
+follows (LeaBpRoom by) r = r == 5
+follows _ r = false
+
 -- Whether decoding may give an operation. Nine come from a program alone.
 abbrev pub is_decoded : Op → Bool
 is_decoded Hop = false

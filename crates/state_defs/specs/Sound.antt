@@ -2,8 +2,8 @@
 use Rattle.std.specs.Prelude.{◌≡◌, ℕ, ◌⊎◌, Bool, true, false, List, ◌∷◌, None, Ok, ◌≤◌, ℤ}
 use Rattle.operation_defs.specs.declared.insn.Insn.{Insn}
 use Rattle.operation_defs.specs.declared.op.Op.{Op}
-use Rattle.operation_defs.specs.declared.op.Op.TheVariants.{Keep, StoreThrough}
-use Rattle.operation_defs.specs.Made.{may_write}
+use Rattle.operation_defs.specs.declared.op.Op.TheVariants.{StoreThrough}
+use Rattle.operation_defs.specs.Made.{follows, may_write}
 use Rattle.state_defs.specs.declared.state.State.{State}
 use Rattle.state_defs.specs.Frame.{Held, HoldsBp, Frame, listed, AreKept, LieAbove}
 use Rattle.state_defs.specs.Effect.{Core, IsInStack, HasSignedNumber, Effect, SparesRegisters}
@@ -25,9 +25,9 @@ pub record IsTold (s : State) (core : Core) (f : Frame) (below : List Frame) : T
 pub record IsSameFrame (before after : Frame) : Type 0 where
   pub same : after ≡ record before { slot = after.slot; cell = after.cell; told = after.told }
 
--- Registers that are held behind an instruction: each of them it doesn't write, or it has put rsp into it.
+-- Registers that are held behind an instruction: each of them it doesn't write, or it sets it from rsp, which states follow.
 abbrev pub HoldsBehind : Insn → (ℕ → Bool) → Type 0
-HoldsBehind insn held = (r : ℕ) → held r ≡ true → (may_write insn r ≡ false) ⊎ ((by : ℤ) × (insn.op ≡ Keep r by))
+HoldsBehind insn held = (r : ℕ) → held r ≡ true → (may_write insn r ≡ false) ⊎ (follows insn.op r ≡ true)
 
 -- where a register is stored to which rbp was copied, it was copied right before
 abbrev pub HasCopied : Insn → Held → Type 0

@@ -102,7 +102,10 @@ pub enum State {
         fp: Option<i64>,
     },
     /// In a call frame whose function aligns rsp with the frame's top in a register.
-    Drap { reg: DrapRegister, phase: Phase },
+    Drap {
+        reg: DrapRegister,
+        phase: Phase,
+    },
 }
 
 /// What an unwind hint does at its place.
