@@ -1,5 +1,5 @@
 -- When a walk over a table gives the frames of the machine.
-use Rattle.std.specs.Prelude.{◌≡◌, ◌⊎◌, List, map, Option, Some, None}
+use Rattle.std.specs.Prelude.{◌≡◌, ◌⊎◌, List, map}
 use Rattle.ot_base.specs.declared.row.PlacedRow.{PlacedRow}
 use Rattle.state_defs.specs.declared.state.EndKind.TheVariants as kind
 use Rattle.state_defs.specs.Region.{word_at}

@@ -25,6 +25,18 @@ full_row = record { sp_offset = pos 0; bp_offset = pos 0; sp_reg = 5; bp_reg = 0
 abbrev pub frame_pointer_row : Row
 frame_pointer_row = record { sp_offset = pos 16; bp_offset = negsuc 15; sp_reg = 4; bp_reg = 1; kind = 2; signal = false }
 
+-- the row of a function that has gone to another stack, where the word at rsp lies so many bytes below its frame's top
+abbrev pub switched_row : ℕ → Row
+switched_row bytes = record { sp_offset = pos bytes; bp_offset = pos 0; sp_reg = 9; bp_reg = 0; kind = 2; signal = false }
+
+-- the row of a function that has aligned rsp, and keeps its frame's top in the word below the one that rbp points to
+abbrev pub aligned_row : Row
+aligned_row = record { sp_offset = negsuc 7; bp_offset = pos 0; sp_reg = 8; bp_reg = 4; kind = 2; signal = false }
+
+-- the row of a whole `struct pt_regs` that counts from the word at rsp, or from the one that rbp points to
+abbrev pub indirect_full_row : ℕ → Row
+indirect_full_row base = record { sp_offset = pos 0; bp_offset = pos 0; sp_reg = base; bp_reg = 0; kind = 3; signal = true }
+
 -- a row that counts from r10
 abbrev pub realigned_row : Row
 realigned_row = record { sp_offset = pos 0; bp_offset = pos 0; sp_reg = 6; bp_reg = 0; kind = 2; signal = false }

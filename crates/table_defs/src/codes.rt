@@ -16,3 +16,5 @@ pub const PT_REGS_SP: u8 = 152;
 /// Bytes from the start of the five words of `KIND_REGS_PARTIAL` (ip, cs, flags, sp, ss), which an
 /// interrupt pushes, to their rsp. Their rip stands at the start.
 pub const IRET_SP: u8 = 24;
+/// How many stacks a walk may visit beside the one on which it begins: a task has no more.
+pub const OTHER_STACKS: u8 = 15;

@@ -29,7 +29,7 @@ pub fn walk_is_determined()
     ensures { WalkIsDetermined }
 {}
 
-/// Every walk ends, since the stack pointer rises with each frame.
+/// Every walk ends, since the stack pointer rises with each frame within a stack, and few stacks are visited.
 pub fn walk_ends()
     ensures { WalkEnds }
 {}

@@ -34,3 +34,21 @@ returns-clause-not_rising c = stops refl refl refl
 
 pub returns-clause-staying : goal.returns-clause-staying
 returns-clause-staying c = stops refl refl refl
+
+pub returns-clause-switched : goal.returns-clause-switched
+returns-clause-switched c = goes_on refl refl refl (outside refl)
+
+pub returns-clause-too_many : goal.returns-clause-too_many
+returns-clause-too_many c = goes_on refl refl refl (goes_on refl refl refl (goes_on refl refl refl (goes_on refl refl refl (goes_on refl refl refl (goes_on refl refl refl (goes_on refl refl refl (goes_on refl refl refl (goes_on refl refl refl (goes_on refl refl refl (goes_on refl refl refl (goes_on refl refl refl (goes_on refl refl refl (goes_on refl refl refl (goes_on refl refl refl (stops refl refl refl)))))))))))))))
+
+pub returns-clause-no_cell : goal.returns-clause-no_cell
+returns-clause-no_cell c = stops refl refl refl
+
+pub returns-clause-aligned : goal.returns-clause-aligned
+returns-clause-aligned c = goes_on refl refl refl (outside refl)
+
+pub returns-clause-indirect_sp : goal.returns-clause-indirect_sp
+returns-clause-indirect_sp c = stops refl refl refl
+
+pub returns-clause-indirect_bp : goal.returns-clause-indirect_bp
+returns-clause-indirect_bp c = stops refl refl refl
