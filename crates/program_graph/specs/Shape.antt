@@ -1,5 +1,5 @@
 -- How the parts of a graph belong together.
-use Rattle.std.specs.Prelude.{◌≡◌, ℕ, ◌+◌, ◌<◌, ◌≤◌, ◌^◌, List, [], ◌∷◌, Some, All, Contains, length, slice_get, slice_index, slice_index_or, slice_range}
+use Rattle.std.specs.Prelude.{◌≡◌, ◌≢◌, ℕ, ◌+◌, ◌<◌, ◌≤◌, ◌^◌, List, [], ◌∷◌, Some, All, Contains, length, slice_get, slice_index, slice_index_or, slice_range}
 use Rattle.std.specs.List.Sorted.{IsNonDecreasing}
 use Rattle.machine_defs.specs.declared.flow.Edge.{Edge}
 use Rattle.machine_defs.specs.declared.flow.EdgeKind.TheVariants.{Table}
@@ -33,6 +33,10 @@ pub record IsKindOf (parts : GraphParts) (q : ℕ) (k : PointKind) : Type 0 wher
   pub at : slice_get parts.points.items q ≡ Some point
   pub named : slice_get parts.kinds.items point.kind ≡ Some k
 
+-- the registers that are held at a point, by the bits of a number
+abbrev pub held_at : GraphParts → ℕ → ℕ
+held_at parts q = slice_index_or parts.held.items q 0
+
 -- what the parts name by a number is in their lists
 pub record HaveShape (parts : GraphParts) : Type 0 where
   -- points have numbers of 32 bits
@@ -51,7 +55,9 @@ pub record HaveShape (parts : GraphParts) : Type 0 where
   -- points that have the edges of another ascend
   pub alike_ascend : IsNonDecreasing parts.alike.items
   pub alike : (q : ℕ) → q < length parts.points.items → Contains parts.alike.items q → IsAlike parts q (first_target parts q)
-  -- so do the RESTOREs of what a point has of hints
+  -- what is held is told of each point, or of none
+  pub held : parts.held.items ≢ [] → length parts.held.items ≡ length parts.points.items
+  -- the RESTOREs of what a point has of hints
   pub restored : (k : ℕ) (x : Hinted) → slice_get parts.hinted.items k ≡ Some x → (x.restores_from ≤ x.restores_to) × (x.restores_to ≤ length parts.restores.items)
   -- edges lead to points, and RESTOREs are points
   pub targets : All (λ e. e.to < length parts.points.items) parts.edges.items

@@ -1,7 +1,7 @@
 -- When the parts of a graph tell a program.
 use Rattle.std.specs.Prelude.{◌≡◌, ℕ, ◌-◌, ◌==◌, ◌↔◌, false, Option, Some, None, is_some, Contains, map, length, slice_get, slice_range, if◌then◌else◌}
 use Rattle.ot_base.specs.declared.place.Place.{Place}
-use Rattle.operation_defs.specs.declared.insn.Insn.{Insn}
+use Rattle.operation_defs.specs.Made.{has_register}
 use Rattle.state_defs.specs.declared.state.HintState.TheVariants.{Restore}
 use Rattle.machine_defs.specs.Program.{Program, TextSection, Site, IsPoint}
 use Rattle.machine_defs.specs.Kept.{edges_of, is_at_entry}
@@ -17,7 +17,7 @@ use Rattle.program_graph.specs.declared.parts.Replaced.{Replaced}
 use Rattle.program_graph.specs.declared.parts.Transfer.{Transfer}
 use Rattle.program_graph.specs.declared.parts.GraphSite.{GraphSite as OwnSite}
 use Rattle.program_graph.specs.declared.parts.TextSection.{TextSection as OwnTextSection}
-use Rattle.program_graph.specs.Shape.{IsAlike, listed_of}
+use Rattle.program_graph.specs.Shape.{IsAlike, held_at, listed_of}
 
 abbrev pub site_of : OwnSite → Site
 site_of s = record { start = s.start; len = s.len }
@@ -84,15 +84,13 @@ pub record TellsOwner (p : Program) (q : ℕ) (x : Owner) : Type 0 where
   pub loose : p.loose q ≡ x.is_loose
   pub uncovered : p.uncovered q ≡ x.is_uncovered
 
-abbrev pub insn_of : PointKind → Insn
-insn_of k = record { len = k.len; op = k.op }
-
 abbrev pub place_of : GraphPoint → Place
 place_of x = record { sec = x.section; off = x.offset }
 
 -- what point q has in the program beside its place and its owner
 pub record TellsKind (p : Program) (parts : GraphParts) (q : ℕ) (k : PointKind) : Type 0 where
-  pub insn : p.insn q ≡ insn_of k
+  pub op : (p.insn q).op ≡ k.op
+  pub len : (p.insn q).len ≡ k.len
   pub dead_end : p.dead_end q ≡ k.is_dead_end
   pub may_return : p.may_return q ≡ k.may_return
   pub entered : is_at_entry p q ≡ k.is_entered
@@ -111,6 +109,7 @@ pub record Tells (p : Program) (parts : GraphParts) : Type 0 where
   pub points : (q : ℕ) (x : GraphPoint) → slice_get parts.points.items q ≡ Some x → TellsPoint p parts q x
   pub edges : (q : ℕ) → IsPoint p q → (Contains parts.alike.items q → ⊥) → edges_of p q ≡ listed_of parts q
   pub alike : (q r : ℕ) → IsPoint p q → Contains parts.alike.items q → IsAlike parts q r → edges_of p q ≡ edges_of p r
+  pub held : (q r : ℕ) → IsPoint p q → p.held q r ≡ has_register (held_at parts q) r
   pub sites : p.sites ≡ map site_of parts.sites.items
   pub texts : p.texts ≡ map text_of parts.texts.items
   pub unsized : p.unsized ≡ parts.without_size.items

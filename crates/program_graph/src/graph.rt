@@ -1,7 +1,8 @@
 //! A graph and its getters.
 
 ghost use Rattle.std.specs.Prelude.{◌≡◌, ◌+◌, ◌<◌, ◌≤◌, ◌↔◌, ◌∷◌, [], None, Some, false, true, ℕ, All, Contains, IfSome, IsSome, IsTrue, MatchOption, is_some, length, map, slice_get, slice_range};
-ghost use Rattle.machine_defs.specs.Program.{Program, no_marks};
+ghost use Rattle.operation_defs.specs.Made.{has_register};
+ghost use Rattle.machine_defs.specs.Program.{IsPoint, Program, no_marks};
 ghost use Rattle.machine_defs.specs.Kept.{edges_of, is_at_entry};
 ghost use Rattle.program_graph.specs.Shape.{HaveShape, IsAlike, IsKindOf, listed_of, start_of};
 ghost use Rattle.program_graph.specs.Tells.{Means, Tells, TellsHinted, TellsKind, TellsOwner, TellsRare, TellsTransfer, TellsUnhinted, site_of, text_of};
@@ -15,7 +16,7 @@ use crate::parts::{
 };
 use crate::usual::{find_usual_rare, find_usual_transfer};
 use machine_defs::{Edge, EdgeKind, Marks, Role};
-use operation_defs::{Insn, Op};
+use operation_defs::Op;
 use ot_base::Place;
 use state_defs::HintState;
 
@@ -196,16 +197,20 @@ impl Graph {
         self.are_together(one, other) || self.owner(one) == self.owner(other)
     }
 
-    /// A point's instruction.
-    pub fn insn(&self, n: u32) -> Insn
+    /// What a point's instruction does.
+    pub fn op(&self, n: u32) -> Op
         requires { n < length self.now.parts.points.items }
-        ensures { (p : Program) → Tells p self.now.parts → result ≡ p.insn n }
+        ensures { (p : Program) → Tells p self.now.parts → result ≡ (p.insn n).op }
     {
-        let kind = self.kind(n);
-        Insn {
-            len: kind.len,
-            op: kind.op,
-        }
+        self.kind(n).op
+    }
+
+    /// How many bytes a point's instruction has.
+    pub fn len(&self, n: u32) -> u8
+        requires { n < length self.now.parts.points.items }
+        ensures { (p : Program) → Tells p self.now.parts → result ≡ (p.insn n).len }
+    {
+        self.kind(n).len
     }
 
     /// Where a point's bytes stand.
@@ -488,6 +493,25 @@ impl Graph {
         ensures { (p : Program) → Tells p self.now.parts → result ≡ is_some (p.names n) }
     {
         self.transfer(n).names_symbol
+    }
+
+    /// Whether a register may be held at some point. Few programs hold any.
+    #[inline(always)]
+    pub fn holds_registers(&self) -> bool
+        ensures { result ≡ false → (p : Program) → Tells p self.now.parts → (q r : ℕ) → IsPoint p q → p.held q r ≡ false }
+    {
+        !self.parts.held.is_empty()
+    }
+
+    /// The registers that are held at a point: bit r tells register r.
+    pub fn held(&self, n: u32) -> u16
+        requires { n < length self.now.parts.points.items }
+        ensures { (p : Program) → Tells p self.now.parts → (r : ℕ) → p.held n r ≡ has_register result r }
+    {
+        if self.parts.held.is_empty() {
+            return 0;
+        }
+        self.parts.held[n as usize]
     }
 
     /// The alternatives sites.

@@ -145,12 +145,12 @@ const _: () = prove!(size_of::<Transfer>() == 20);
 
 const _: () = prove!(size_of::<Rare>() == 32);
 
-const _: () = prove!(size_of::<Hinted>() == 96);
+const _: () = prove!(size_of::<Hinted>() == 128);
 
 /// What a graph is made of.
 ///
-/// A point takes 16 bytes, 4 for where its edges begin, and 8 for each edge. A kind takes 32 bytes, a transfer 20, what is
-/// rare 32, and a hint 96 more.
+/// A point takes 16 bytes, 4 for where its edges begin, and 8 for each edge; and 2 for what is held there, where some point holds
+/// a register. A kind takes 32 bytes, a transfer 20, what is rare 32, and a hint 128 more.
 #[derive(Drop)]
 pub struct GraphParts {
     /// The points by number.
@@ -167,6 +167,8 @@ pub struct GraphParts {
     pub owners: Vec<Owner>,
     /// What the points have besides.
     pub kinds: Vec<PointKind>,
+    /// For each point the registers that are held there: bit r tells register r. None where no point holds any.
+    pub held: Vec<u16>,
     /// Where control may go from the points.
     pub transfers: Vec<Transfer>,
     /// What few points have, and what usual ones have.
