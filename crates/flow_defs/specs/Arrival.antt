@@ -6,7 +6,7 @@ use Rattle.ot_base.specs.declared.place.Place.{Place}
 use Rattle.ot_base.specs.Places.{same_place}
 use Rattle.operation_defs.specs.declared.insn.Insn.{Insn}
 use Rattle.operation_defs.specs.declared.op.Op.{Op}
-use Rattle.operation_defs.specs.declared.op.Op.TheVariants.{Nop, SubSp, SpReg, Ud2}
+use Rattle.operation_defs.specs.declared.op.Op.TheVariants.{Nop, Ud2}
 use Rattle.operation_defs.specs.Made.{Around, made}
 use Rattle.state_defs.specs.declared.state.HintState.{HintState}
 use Rattle.state_defs.specs.declared.state.HintState.TheVariants.{Restore, Save, Set}
@@ -109,7 +109,7 @@ hint_of o point = option_or (own_hint_of o point) (start_hint_of o point)
 
 -- a hint tells a call frame (CALL, FUNC), or restores what a SAVE marked
 abbrev pub tells_frame : Option HintState → Bool
-tells_frame (Some (Set (Live depth fp bp))) = true
+tells_frame (Some (Set (Live depth fp bp copy))) = true
 tells_frame (Some Restore) = true
 tells_frame _ = false
 
@@ -123,29 +123,25 @@ goes_on_behind o point (Some owner) (q ∷ next) = list_all (λ r. same_owner (o
 abbrev pub is_intra_call : Coded → Point → Bool
 is_intra_call o point = not (is_padding o point) && list_any (same_place point.place) (special_of o.elf).intra_calls
 
--- operations that make room below a frame
-abbrev pub is_room : Op → Bool
-is_room SubSp = true
-is_room SpReg = true
-is_room _ = false
-
--- a function makes room at one of its points, of any variant; code of no function makes none
-unfoldable pub makes_room : Coded → Option ℕ → Bool
-makes_room o None = false
-makes_room o (Some owner) = list_any (λ point. same_owner (owner_of_point o point) (Some owner) && is_room (decoded_insn o point).op) (points_of_object o)
-
--- what the object says around the instruction of a point; which code switches tasks, lists of names say
+-- what the object says around the instruction of a point; which code switches tasks, lists of names say, and what copies of rsp
+-- make of it, the program's edges
 unfoldable pub around : Coded → Point → Around
 around o point = record {
   intra_call = is_intra_call o point;
   within = goes_on_behind o point (owner_of_point o point) (after o point);
   hinted = list_all (λ q. tells_frame (hint_of o (point_at o q))) (after o point);
-  makes_room = makes_room o (owner_of_point o point);
+  makes_room = false;
   returning = is_some (returning_target o (destination_of o point));
   loads_stack = false;
+  kept = false;
+  back = false;
+  drap = None;
+  to_cell = false;
+  copies_bp = None;
+  stores_bp = None;
 }
 
--- The instruction of a point: its length, and what a program makes of its decoded operation. Where control goes is told by it,
--- whichever code switches tasks.
+-- The instruction of a point, with what a program makes of its decoded operation. Where control goes is told by it,
+-- whichever code switches tasks, and whichever registers hold copies of rsp.
 unfoldable pub insn_of_object : Coded → Point → Insn
-insn_of_object o point = let insn = decoded_insn o point in record { len = insn.len; op = made (around o point) insn.op }
+insn_of_object o point = let insn = decoded_insn o point in record insn { op = made (around o point) insn.op }

@@ -11,7 +11,7 @@ use Rattle.flow_defs.specs.Code.{texts_of, alternatives_of, numbers_of}
 
 -- where a point is none of the object
 abbrev pub no_insn : Insn
-no_insn = record { len = 0; op = Plain }
+no_insn = record { len = 0; op = Plain; writes = 0 }
 
 -- the instruction of a point as it is decoded; of a padding point, the padding
 unfoldable pub decoded_insn : Coded → Point → Insn

@@ -15,6 +15,7 @@ pub mod Edges
 pub mod Marks
 pub mod Hints
 pub mod Returning
+pub mod Copies
 pub mod Program
 pub mod Faults
 pub mod WorkedObjects

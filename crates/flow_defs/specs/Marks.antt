@@ -5,7 +5,7 @@ use Rattle.ot_base.specs.declared.place.Place.{Place}
 use Rattle.alternatives.specs.Texts.{is_boundary}
 use Rattle.operation_defs.specs.declared.insn.Insn.{Insn}
 use Rattle.operation_defs.specs.declared.op.Op.{Op}
-use Rattle.operation_defs.specs.declared.op.Op.TheVariants.{AddSp, AndSp, LeaSpBp, LeaBpSp, LeaBpRoom, StoreBp, LoadBp, Call, Hop, Jmp, Jcc}
+use Rattle.operation_defs.specs.declared.op.Op.TheVariants.{AddSp, AndSp, LeaSpBp, LeaBpSp, LeaBpRoom, LeaReg, LeaSpReg, LoadReg, StoreBp, LoadBp, Call, Hop, Jmp, Jcc}
 use Rattle.flow_defs.specs.Coded.{Coded}
 use Rattle.machine_defs.specs.declared.flow.EdgeKind.{EdgeKind}
 use Rattle.machine_defs.specs.declared.flow.EdgeKind.TheVariants.{Taken, Fixup}
@@ -133,13 +133,17 @@ is_inner_call_by o point _ = false
 unfoldable pub calls_into_function : Coded → Point → Bool
 calls_into_function o point = is_inner_call_by o point (insn_of_object o point).op
 
--- an operation by a number: how far it moves rsp or rbp, what it masks rsp with, or where it saves or loads rbp
+-- an operation by a number: how far it moves rsp or rbp, what it masks rsp with, where it saves or loads rbp, or how far from rsp it
+-- sets a register, or from r10 or r13 rsp, or where from rbp it loads these
 abbrev pub has_stack_offset : Op → Bool
 has_stack_offset (AddSp by) = true
 has_stack_offset (AndSp mask) = true
 has_stack_offset (LeaSpBp by) = true
 has_stack_offset (LeaBpSp by) = true
 has_stack_offset (LeaBpRoom by) = true
+has_stack_offset (LeaReg reg by) = true
+has_stack_offset (LeaSpReg reg by) = true
+has_stack_offset (LoadReg reg at) = true
 has_stack_offset (StoreBp at) = true
 has_stack_offset (LoadBp at) = true
 has_stack_offset _ = false

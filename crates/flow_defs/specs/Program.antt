@@ -31,6 +31,7 @@ use Rattle.flow_defs.specs.Edges.{goes}
 use Rattle.flow_defs.specs.Marks.{marks_of}
 use Rattle.flow_defs.specs.Hints.{hint_of, own_hint_of, save_of}
 use Rattle.flow_defs.specs.Returning.{returns_at_last}
+use Rattle.flow_defs.specs.Copies.{insn_with_copies, is_held}
 
 -- the plain points at the starts of functions that are neither parts nor unchecked
 abbrev pub is_entry_point : Coded → Point → Bool
@@ -113,6 +114,7 @@ graph_of o lists = record {
   names = λ q. names_of o (point_at o q);
   marked_call = λ q. is_marked_call o (point_at o q);
   dead_end = λ q. is_dead_end o (point_at o q);
+  held = λ q r. false;
   marks = λ q. no_marks;
   after = λ q. after o (point_at o q);
   arrive = arrive o;
@@ -136,4 +138,6 @@ comes_back o lists q = target_may_return (returning_graph o lists) q
 
 -- the program of an object, under lists of names
 unfoldable pub program_of : Coded → NameLists → Program
-program_of o lists = record (returning_graph o lists) { marks = λ q. marks_of o (point_at o q) (comes_back o lists q) }
+program_of o lists =
+    let g = returning_graph o lists in
+    record g { insn = insn_with_copies g; held = is_held g; marks = λ q. marks_of o (point_at o q) (comes_back o lists q) }

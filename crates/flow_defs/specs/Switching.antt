@@ -1,7 +1,9 @@
 -- Code that switches tasks, by lists of names, and what a program makes of its instructions.
-use Rattle.std.specs.Prelude.{ℕ, ◌/◌, ◌%◌, ◌==◌, ◌&&◌, nat_le, nat_lt, Bool, List, slice_index}
+use Rattle.std.specs.Prelude.{ℕ, ◌/◌, ◌%◌, ◌==◌, ◌&&◌, nat_le, nat_lt, Bool, true, List, slice_index}
 use Rattle.ot_base.specs.NameLists.{NameLists}
 use Rattle.operation_defs.specs.declared.insn.Insn.{Insn}
+use Rattle.operation_defs.specs.declared.op.Op.{Op}
+use Rattle.operation_defs.specs.declared.op.Op.TheVariants.{SpOther}
 use Rattle.operation_defs.specs.Made.{Around, made}
 use Rattle.symbols_relocs.specs.NamedCode.{is_in_named_code}
 use Rattle.alternatives.specs.declared.point.Point.{Point}
@@ -31,6 +33,14 @@ loads_stack_of o lists point = is_in_named_code o.elf lists.switching (address_o
 abbrev pub around_by : Coded → NameLists → Point → Around
 around_by o lists point = record (around o point) { loads_stack = loads_stack_of o lists point }
 
--- the instruction of a point, as the program has it
+-- the registers that are written: all where tasks are switched
+abbrev pub writes_by : Bool → Op → ℕ → ℕ
+writes_by true SpOther writes = 0xFFFF
+writes_by loads_stack op writes = writes
+
+-- the instruction of a point, as the program has it before copies of rsp are looked at
 unfoldable pub insn_by : Coded → NameLists → Point → Insn
-insn_by o lists point = let insn = decoded_insn o point in record { len = insn.len; op = made (around_by o lists point) insn.op }
+insn_by o lists point =
+    let insn = decoded_insn o point in
+    let around = around_by o lists point in
+    record insn { op = made around insn.op; writes = writes_by around.loads_stack insn.op insn.writes }

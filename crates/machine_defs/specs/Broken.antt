@@ -12,7 +12,7 @@ use Rattle.machine_defs.specs.declared.flow.Role.TheVariants.{Return, JumpOut, J
 use Rattle.state_defs.specs.declared.state.State.{State}
 use Rattle.state_defs.specs.declared.state.HintState.TheVariants.{Restore}
 use Rattle.state_defs.specs.Row.{row_of, unfit_offset}
-use Rattle.state_defs.specs.Rules.{is_followed, return_rule, sibling_rule, switch_rule, iret_rule, call_rule, may_fault, may_call, depth_number}
+use Rattle.state_defs.specs.Rules.{is_followed, is_followed_by, return_rule, sibling_rule, switch_rule, iret_rule, call_rule, may_fault, may_call, depth_number}
 use Rattle.machine_defs.specs.Program.{Program, IsPoint, Site, in_site, entry_points, is_call_op, is_looked_up_behind, edge}
 use Rattle.machine_defs.specs.Ways.{is_before_hint, may_leave}
 use Rattle.machine_defs.specs.IsProgram.{IsProgram, HintsStandAtPoints}
@@ -94,7 +94,7 @@ pub data Warns (p : Program) : Place → ℕ → ℤ → ℤ → Type 0 where
   entered_restore : (q entry : ℕ) → p.hint q ≡ Some Restore → NotKept p q → Contains p.entries entry → Contains (entry_points p entry) q → Warns p (p.place q) RESTORE_WITHOUT_SAVE (pos 0) (pos 0)
   reached_restore : (q r : ℕ) (s : State) (e : Edge) → p.hint r ≡ Some Restore → NotKept p r → Kept p q s → Contains (edges_of p q) e → e.to ≡ r → Warns p (p.place r) RESTORE_WITHOUT_SAVE (pos 0) (pos 0)
   -- 19. a relocation changes the number by which its state is followed
-  relocated_offset : (q : ℕ) (s : State) → Kept p q s → is_followed s ≡ true → (p.marks q).relocated ≡ true → Warns p (p.place q) RELOCATED_STACK_OFFSET (pos 0) (pos 0)
+  relocated_offset : (q : ℕ) (s : State) → Kept p q s → is_followed_by (p.insn q).op s ≡ true → (p.marks q).relocated ≡ true → Warns p (p.place q) RELOCATED_STACK_OFFSET (pos 0) (pos 0)
 
 -- a program without a broken rule
 abbrev pub IsAccepted : Program → Type 0

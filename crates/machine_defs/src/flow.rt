@@ -94,7 +94,7 @@ pub struct Marks {
     /// It calls a boundary of this object that is neither an entry, nor the start of an unchecked function, nor what
     /// it may call of code of no function (`MayCall`, and gates by a symbol's name from a function): a place inside a function, of no function, or at the start of a part.
     pub into_function: bool,
-    /// It moves rsp or rbp by a number, masks rsp with one, or saves or loads rbp at one from rsp, and a relocation begins
-    /// at one of its bytes, so that a linker changes the number.
+    /// It moves rsp or rbp by a number, masks rsp with one, saves or loads rbp at one from rsp, or sets a register from rsp, or rsp or
+    /// r10 or r13 from another register, by one; and a relocation begins at one of its bytes, so that a linker changes the number.
     pub relocated: bool,
 }

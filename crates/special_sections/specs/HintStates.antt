@@ -1,5 +1,5 @@
 -- What the unwind hints of an object do to the state of the stack (Linux 6.6, orc_types.h and objtool_types.h).
-use Rattle.std.specs.Prelude.{ℤ, ◌==◌, true, false, List, find, reverse, Option, Some, None, option_and_then, if◌then◌else◌}
+use Rattle.std.specs.Prelude.{ℤ, ◌==◌, not, true, false, List, find, reverse, Option, Some, None, option_and_then, if◌then◌else◌}
 use Rattle.ot_base.specs.declared.place.Place.{Place}
 use Rattle.ot_base.specs.Places.{same_place}
 use Rattle.special_sections.specs.declared.entries.HintEntry.{HintEntry}
@@ -14,16 +14,17 @@ use Rattle.state_defs.specs.State.{initial}
 
 -- in a call frame whose top is so many bytes above rsp, and whose caller's rbp is in rbp
 abbrev pub frame_state : ℤ → State
-frame_state above = Live (Known above) None Same
+frame_state above = Live (Known above) None Same None
 
--- what a hint does, by its type: 0 UNDEFINED, 1 END_OF_STACK, 2 CALL, 3 REGS, 4 REGS_PARTIAL, 5 FUNC, 6 SAVE, 7 RESTORE
+-- what a hint does, by its type: 0 UNDEFINED, 1 END_OF_STACK, 2 CALL, 3 REGS, 4 REGS_PARTIAL, 5 FUNC, 6 SAVE, 7 RESTORE; saved
+-- registers without the signal are those of a breakpoint
 abbrev pub hint_state : HintEntry → Option HintState
 hint_state h =
     if h.kind == 0 then Some (Set (Ended Undefined))
     else if h.kind == 1 then Some (Set (Ended EndOfStack))
     else if h.kind == 2 then Some (Set (frame_state h.sp_offset))
-    else if h.kind == 3 then Some (Set (Regs true h.sp_offset))
-    else if h.kind == 4 then Some (Set (Regs false h.sp_offset))
+    else if h.kind == 3 then Some (Set (Regs true h.sp_offset (not h.signal)))
+    else if h.kind == 4 then Some (Set (Regs false h.sp_offset (not h.signal)))
     else if h.kind == 5 then Some (Set initial)
     else if h.kind == 6 then Some Save
     else if h.kind == 7 then Some Restore

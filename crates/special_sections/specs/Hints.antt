@@ -39,9 +39,9 @@ has_other_base h = ((h.kind == 2) || has_regs h.kind) && not (h.sp_reg == 5)
 abbrev pub has_bad_offset : HintEntry → Bool
 has_bad_offset h = ((h.kind == 2) && int_lt h.sp_offset (pos 8)) || (has_regs h.kind && int_lt h.sp_offset (pos 0))
 
--- the signal byte is 0 in CALL and FUNC, and 1 in REGS and REGS_PARTIAL
+-- the signal byte is 0 in CALL and FUNC, and 0 or 1 in REGS and REGS_PARTIAL
 abbrev pub has_bad_signal : ℕ → ℕ → Bool
-has_bad_signal kind signal = (((kind == 2) || (kind == 5)) && not (signal == 0)) || (has_regs kind && not (signal == 1))
+has_bad_signal kind signal = (((kind == 2) || (kind == 5)) && not (signal == 0)) || (has_regs kind && nat_lt 1 signal)
 
 -- the signal byte of an entry
 abbrev pub signal_byte : Elf → ℕ → ℕ → ℕ

@@ -1,6 +1,8 @@
 -- The rules that a state alone decides.
 use Rattle.std.specs.Prelude.{ℕ, Bool, true, false, ◌&&◌, Option, Some, None, if◌then◌else◌, is_some, ℤ, pos, neg_ℤ}
 use Rattle.ot_base.specs.declared.rules.TheConstants.{MODIFIED_RETURN, MODIFIED_SIBLING_CALL, OFFSET_OUT_OF_RANGE, EXIT_NOT_ALLOWED, CALL_WITHOUT_FRAME}
+use Rattle.operation_defs.specs.declared.op.Op.{Op}
+use Rattle.operation_defs.specs.declared.op.Op.TheVariants.{LeaReg, LeaSpReg, LoadReg}
 use Rattle.state_defs.specs.declared.state.Depth.{Depth}
 use Rattle.state_defs.specs.declared.state.Depth.TheVariants.{Known, AtLeast}
 use Rattle.state_defs.specs.declared.state.BpHome.{BpHome}
@@ -16,6 +18,16 @@ use Rattle.state_defs.specs.Row.{unfit_offset}
 abbrev pub is_followed : State → Bool
 is_followed (Ended kind) = false
 is_followed _ = true
+
+-- whether a state is moved by the number in an operation, where it has one: that of a register that is set from rsp only where it is
+-- kept, and that of one by which a frame's top comes back only while rsp is aligned
+abbrev pub is_followed_by : Op → State → Bool
+is_followed_by (LeaReg reg by) s = false
+is_followed_by (LeaSpReg reg by) (Drap other phase) = true
+is_followed_by (LeaSpReg reg by) s = false
+is_followed_by (LoadReg reg at) (Drap other phase) = true
+is_followed_by (LoadReg reg at) s = false
+is_followed_by op s = is_followed s
 
 -- whether a hint with this state tells how code of no function is called: in a call frame, or where the stack has ended
 abbrev pub may_be_called : State → Bool
