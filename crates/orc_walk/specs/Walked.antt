@@ -1,5 +1,5 @@
 -- What a walk appends and answers.
-use Rattle.std.specs.Prelude.{◌≡◌, Bool, true, List, ◌++◌, Some, Ok}
+use Rattle.std.specs.Prelude.{◌≡◌, ℕ, Bool, true, List, ◌++◌, Some, Ok}
 use Rattle.ot_base.specs.declared.row.Row.{Row}
 use Rattle.ot_base.specs.declared.row.PlacedRow.{PlacedRow}
 use Rattle.table_defs.specs.declared.range.Range.{Range}
@@ -11,13 +11,11 @@ use Rattle.table_defs.specs.Placement.{is_inside}
 use Rattle.table_defs.specs.Lookup.{find_row}
 use Rattle.table_defs.specs.Walk.{Memory, Walks, lookup_address, unwound}
 
--- the row that holds at the address that is looked up gives this frame, and has this signal bit
-pub record GivesFrame (rows : List PlacedRow) (ranges : List Range) (memory : Memory) (next : Bool) (regs : Regs) (frame : Frame) (signal : Bool) : Type 0 where
-  pub row : Row
+-- the row holds at the address that is looked up, and gives this frame, where so many other stacks may still be visited
+pub record GivesFrame (rows : List PlacedRow) (ranges : List Range) (memory : Memory) (stacks : ℕ) (next : Bool) (regs : Regs) (frame : Frame) (row : Row) : Type 0 where
   pub inside : is_inside ranges (lookup_address next regs.ip) ≡ true
   pub found : find_row rows ranges (lookup_address next regs.ip) ≡ Some row
-  pub gives : unwound memory regs row ≡ Ok frame
-  pub bit : row.signal ≡ signal
+  pub gives : unwound memory stacks regs row ≡ Ok frame
 
 -- these frames are in front of those of the whole walk
 abbrev pub IsFront : List PlacedRow → List Range → Memory → Regs → List Frame → Type 0
