@@ -1,5 +1,5 @@
 -- The state that a checker keeps for each point, by levels.
-use Rattle.std.specs.Prelude.{◌≡◌, ◌↔◌, ℕ, zero, suc, ◌+◌, Bool, true, false, ◌||◌, List, [], ◌∷◌, Option, Some, None, Result, Ok, Err, ◌==◌, filter, map, flat_map, if◌then◌else◌, option_map, option_and_then, Contains}
+use Rattle.std.specs.Prelude.{◌≡◌, ◌↔◌, ℕ, zero, suc, ◌+◌, Bool, true, false, not, ◌&&◌, ◌||◌, List, [], ◌∷◌, Option, Some, None, Result, Ok, Err, ◌==◌, filter, map, flat_map, if◌then◌else◌, option_map, option_and_then, Contains}
 use Rattle.std.specs.List.{list_any}
 use Rattle.ot_base.specs.declared.rules.TheConstants.{UNSUPPORTED_SP_WRITE, BP_NOT_SAVED, STACK_POINTER_LOST, SAVED_SLOT_DROPPED}
 use Rattle.machine_defs.specs.declared.flow.Edge.{Edge}
@@ -12,6 +12,7 @@ use Rattle.state_defs.specs.declared.state.HintState.{HintState}
 use Rattle.state_defs.specs.declared.state.HintState.TheVariants.{Set, Save, Restore}
 use Rattle.state_defs.specs.State.{initial, held_by}
 use Rattle.state_defs.specs.Order.{least}
+use Rattle.state_defs.specs.Rules.{is_poised}
 use Rattle.state_defs.specs.Move.{move}
 use Rattle.machine_defs.specs.Program.{Program, entry_points, below}
 use Rattle.machine_defs.specs.MayReturn.{target_may_return}
@@ -43,9 +44,9 @@ loosened false result = result
 loosened true (Ok s) = Ok s
 loosened true (Err rule) = if loses_stack rule then Ok (Ended Undefined) else Err rule
 
--- the move of a state by the instruction of a point
+-- The move of a state by the instruction of a point. Right behind a store of rsp in a cell, loose code has to go to the cell as all code.
 abbrev pub moved_at : Program → ℕ → State → Result State ℕ
-moved_at p q s = loosened (p.loose q) (move s (p.insn q).op)
+moved_at p q s = loosened (p.loose q && not (is_poised s)) (move s (p.insn q).op)
 
 -- What a state is brought along an edge as, where its move is told: to a fixup the state before the instruction, else the one
 -- after it; to another function none

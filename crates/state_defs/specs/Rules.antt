@@ -19,6 +19,11 @@ abbrev pub is_followed : State → Bool
 is_followed (Ended kind) = false
 is_followed _ = true
 
+-- whether rsp was just saved in a cell of another stack
+abbrev pub is_poised : State → Bool
+is_poised (Poised depth fp bp) = true
+is_poised _ = false
+
 -- whether a state is moved by the number in an operation, where it has one: that of a register that is set from rsp only where it is
 -- kept, and that of one by which a frame's top comes back only while rsp is aligned
 abbrev pub is_followed_by : Op → State → Bool
