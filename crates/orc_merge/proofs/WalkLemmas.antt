@@ -11,7 +11,7 @@ use Rattle.table_defs.specs.declared.frame.Stop.{Stop}
 use Rattle.table_defs.specs.declared.frame.Stop.TheVariants.{Outside, Undefined, NoRow}
 use Rattle.table_defs.specs.Placement.{covers, is_inside}
 use Rattle.table_defs.specs.Lookup.{AddressedRow, find_row}
-use Rattle.table_defs.specs.Walk.{Memory, WalksFrom, outside, no_row, stops, goes_on, lookup_address, registers_of, unwound}
+use Rattle.table_defs.specs.Walk.{Memory, WalksFrom, outside, no_row, stops, goes_on, lookup_address, registers_of, stacks_behind, unwound}
 use Rattle.orc_walk.specs.Rows.{row_at}
 use Rattle.orc_merge.specs.declared.part.Part.{Part}
 use Rattle.orc_merge.specs.Alike.{known}
@@ -42,8 +42,8 @@ err_ok : {x : Stop} {y : Frame} → ◌≡◌ {A = Result Frame Stop} (Err x) (O
 err_ok h = cc
 
 -- a row of the undefined kind stops a walk
-undefined_stops : (memory : Memory) (regs : Regs) (row : Row) → row.kind ≡ 0 → unwound memory regs row ≡ Err Undefined
-undefined_stops memory regs row is = taken (eqb row.kind 0) (Err Undefined) _ (ap (λ (kind : ℕ). eqb kind 0) is)
+undefined_stops : (memory : Memory) (stacks : ℕ) (regs : Regs) (row : Row) → row.kind ≡ 0 → unwound memory stacks regs row ≡ Err Undefined
+undefined_stops memory stacks regs row is = taken (eqb row.kind 0) (Err Undefined) _ (ap (λ (kind : ℕ). eqb kind 0) is)
   where
     taken : {A : Type 0} (b : Bool) (x y : A) → b ≡ true → cond b x y ≡ x
     taken true x y h = refl
@@ -90,30 +90,30 @@ module _ (parts : List Part) (rows : List AddressedRow) (part : Part) (memory : 
   inside_both : (address : ℕ) → is_inside part.ranges.items address ≡ true → is_inside (ranges_of_all parts) address ≡ true
   inside_both address inside = inside_all parts part address among inside
 
-  abbrev Ends : Bool → Regs → List Frame → Stop → Type 0
-  Ends next regs frames stop = (end : Stop) × TableWalksFrom rows (ranges_of_all parts) memory next regs frames end × StopAlike stop end
+  abbrev Ends : ℕ → Bool → Regs → List Frame → Stop → Type 0
+  Ends stacks next regs frames stop = (end : Stop) × TableWalksFrom rows (ranges_of_all parts) memory stacks next regs frames end × StopAlike stop end
 
   -- a walk that finds nothing that tells
-  ends_here : (next : Bool) (regs : Regs) (stop : Stop) → is_inside part.ranges.items (lookup_address next regs.ip) ≡ true → known (find_row part.rows.items part.ranges.items (lookup_address next regs.ip)) ≡ None → TellsNothing stop → Ends next regs [] stop
-  ends_here next regs stop inside nothing quiet = go (nothing_found (row_at (lookup_address next regs.ip) rows) (alike (lookup_address next regs.ip) inside ∙ nothing))
+  ends_here : (stacks : ℕ) (next : Bool) (regs : Regs) (stop : Stop) → is_inside part.ranges.items (lookup_address next regs.ip) ≡ true → known (find_row part.rows.items part.ranges.items (lookup_address next regs.ip)) ≡ None → TellsNothing stop → Ends stacks next regs [] stop
+  ends_here stacks next regs stop inside nothing quiet = go (nothing_found (row_at (lookup_address next regs.ip) rows) (alike (lookup_address next regs.ip) inside ∙ nothing))
     where
-      go : NothingFound (row_at (lookup_address next regs.ip) rows) → Ends next regs [] stop
+      go : NothingFound (row_at (lookup_address next regs.ip) rows) → Ends stacks next regs [] stop
       go (absent is) = (NoRow, table_no_row (inside_both _ inside) is, inr (quiet, inl refl))
-      go (silent row is zero) = (Undefined, table_stops (inside_both _ inside) is (undefined_stops memory regs row zero), inr (quiet, inr refl))
+      go (silent row is zero) = (Undefined, table_stops (inside_both _ inside) is (undefined_stops memory stacks regs row zero), inr (quiet, inr refl))
 
-  ends : {next : Bool} {regs : Regs} {frames : List Frame} {stop : Stop} → WalksFrom part.rows.items part.ranges.items memory next regs frames stop → stop ≢ Outside → Ends next regs frames stop
+  ends : {stacks : ℕ} {next : Bool} {regs : Regs} {frames : List Frame} {stop : Stop} → WalksFrom part.rows.items part.ranges.items memory stacks next regs frames stop → stop ≢ Outside → Ends stacks next regs frames stop
   ends (outside out) stays = absurd (stays refl)
-  ends {next = next} {regs = regs} (no_row inside none) stays = ends_here next regs NoRow inside (ap known none) (inl refl)
-  ends {next = next} {regs = regs} (stops {row = row} {stop = stop} inside found is) stays = elim (known_cases row) [
+  ends {stacks = stacks} {next = next} {regs = regs} (no_row inside none) stays = ends_here stacks next regs NoRow inside (ap known none) (inl refl)
+  ends {stacks = stacks} {next = next} {regs = regs} (stops {row = row} {stop = stop} inside found is) stays = elim (known_cases row) [
     | inl zero ↦
-        ends_here next regs stop inside (ap known found ∙ zero.1) (inr (err_same (sym is ∙ undefined_stops memory regs row zero.0)))
+        ends_here stacks next regs stop inside (ap known found ∙ zero.1) (inr (err_same (sym is ∙ undefined_stops memory stacks regs row zero.0)))
     | inr same ↦
         (stop, table_stops (inside_both _ inside) (row_found (row_at (lookup_address next regs.ip) rows) row (alike _ inside ∙ ap known found ∙ same)) is, inl refl)
   ]
-  ends {next = next} {regs = regs} (goes_on {row = row} {frame = frame} inside found is rest) stays =
+  ends {stacks = stacks} {next = next} {regs = regs} (goes_on {row = row} {frame = frame} inside found is rest) stays =
       let behind = ends rest stays in
       elim (known_cases row) [
-        | inl zero ↦ absurd (err_ok (sym (undefined_stops memory regs row zero.0) ∙ is))
+        | inl zero ↦ absurd (err_ok (sym (undefined_stops memory stacks regs row zero.0) ∙ is))
         | inr same ↦
             (behind.0, table_goes_on (inside_both _ inside) (row_found (row_at (lookup_address next regs.ip) rows) row (alike _ inside ∙ ap known found ∙ same)) is behind.1, behind.2)
       ]
@@ -121,27 +121,27 @@ module _ (parts : List Part) (rows : List AddressedRow) (part : Part) (memory : 
   abbrev Begins : List Frame → List Frame → Type 0
   Begins frames all = (rest : List Frame) × (all ≡ frames ++ rest)
 
-  begins : {next : Bool} {regs : Regs} {frames all : List Frame} {stop end : Stop} → WalksFrom part.rows.items part.ranges.items memory next regs frames stop → TableWalksFrom rows (ranges_of_all parts) memory next regs all end → Begins frames all
+  begins : {stacks : ℕ} {next : Bool} {regs : Regs} {frames all : List Frame} {stop end : Stop} → WalksFrom part.rows.items part.ranges.items memory stacks next regs frames stop → TableWalksFrom rows (ranges_of_all parts) memory stacks next regs all end → Begins frames all
   begins {all = all} (outside out) other = (all, refl)
   begins {all = all} (no_row inside none) other = (all, refl)
   begins {all = all} (stops inside found is) other = (all, refl)
-  begins {next = next} {regs = regs} (goes_on {row = row} {frame = frame} {frames = frames} inside found is rest) other =
+  begins {stacks = stacks} {next = next} {regs = regs} (goes_on {row = row} {frame = frame} {frames = frames} inside found is rest) other =
       elim (known_cases row) [
-        | inl zero ↦ absurd (err_ok (sym (undefined_stops memory regs row zero.0) ∙ is))
+        | inl zero ↦ absurd (err_ok (sym (undefined_stops memory stacks regs row zero.0) ∙ is))
         | inr same ↦ onward other (row_found (row_at (lookup_address next regs.ip) rows) row (alike _ inside ∙ ap known found ∙ same)) (λ others last walk. begins rest walk)
       ]
     where
-      onward : {all : List Frame} {end : Stop} → TableWalksFrom rows (ranges_of_all parts) memory next regs all end → row_at (lookup_address next regs.ip) rows ≡ Some row
-          → ((others : List Frame) (last : Stop) → TableWalksFrom rows (ranges_of_all parts) memory row.signal (registers_of frame) others last → Begins frames others)
+      onward : {all : List Frame} {end : Stop} → TableWalksFrom rows (ranges_of_all parts) memory stacks next regs all end → row_at (lookup_address next regs.ip) rows ≡ Some row
+          → ((others : List Frame) (last : Stop) → TableWalksFrom rows (ranges_of_all parts) memory (stacks_behind stacks row) row.signal (registers_of frame) others last → Begins frames others)
           → Begins (frame ∷ frames) all
       onward (table_outside out) at next_walk = absurd (false≢true (sym out ∙ inside_both _ inside))
       onward (table_no_row in_all none) at next_walk = absurd (none-some _ (sym none ∙ at))
-      onward (table_stops in_all at_other stop_is) at next_walk = absurd (err_ok (sym stop_is ∙ ap (unwound memory regs) (some_same (sym at_other ∙ at)) ∙ is))
+      onward (table_stops in_all at_other stop_is) at next_walk = absurd (err_ok (sym stop_is ∙ ap (unwound memory stacks regs) (some_same (sym at_other ∙ at)) ∙ is))
       onward (table_goes_on {row = row'} {frame = frame'} {frames = frames'} {stop = last} in_all at_other frame_is walk) at next_walk =
           let same_row : row' ≡ row = some_same (sym at_other ∙ at) in
-          let same_frame : frame' ≡ frame = ok_same (sym frame_is ∙ ap (unwound memory regs) same_row ∙ is) in
-          let moved : TableWalksFrom rows (ranges_of_all parts) memory row.signal (registers_of frame') frames' last = subst (λ (r : Row). TableWalksFrom rows (ranges_of_all parts) memory r.signal (registers_of frame') frames' last) same_row walk in
-          let here : TableWalksFrom rows (ranges_of_all parts) memory row.signal (registers_of frame) frames' last = subst (λ (f : Frame). TableWalksFrom rows (ranges_of_all parts) memory row.signal (registers_of f) frames' last) same_frame moved in
+          let same_frame : frame' ≡ frame = ok_same (sym frame_is ∙ ap (unwound memory stacks regs) same_row ∙ is) in
+          let moved : TableWalksFrom rows (ranges_of_all parts) memory (stacks_behind stacks row) row.signal (registers_of frame') frames' last = subst (λ (r : Row). TableWalksFrom rows (ranges_of_all parts) memory (stacks_behind stacks r) r.signal (registers_of frame') frames' last) same_row walk in
+          let here : TableWalksFrom rows (ranges_of_all parts) memory (stacks_behind stacks row) row.signal (registers_of frame) frames' last = subst (λ (f : Frame). TableWalksFrom rows (ranges_of_all parts) memory (stacks_behind stacks row) row.signal (registers_of f) frames' last) same_frame moved in
           let (more, split) = next_walk frames' last here in
           (more, joined same_frame split)
         where

@@ -1,14 +1,15 @@
 -- Walks over merged rows.
-use Rattle.std.specs.Prelude.{◌≡◌, ◌≢◌, ◌⊎◌, Bool, true, false, List, [], ◌∷◌, ◌++◌, flat_map, Some, None, Ok, Err, Contains}
+use Rattle.std.specs.Prelude.{◌≡◌, ◌≢◌, ◌⊎◌, ℕ, Bool, true, false, List, [], ◌∷◌, ◌++◌, flat_map, Some, None, Ok, Err, Contains}
 use Rattle.ot_base.specs.declared.row.Row.{Row}
 use Rattle.table_defs.specs.declared.range.Range.{Range}
 use Rattle.table_defs.specs.declared.frame.Regs.{Regs}
 use Rattle.table_defs.specs.declared.frame.Frame.{Frame}
 use Rattle.table_defs.specs.declared.frame.Stop.{Stop}
 use Rattle.table_defs.specs.declared.frame.Stop.TheVariants.{Outside, Undefined, NoRow}
+use Rattle.table_defs.specs.declared.codes.TheConstants.{OTHER_STACKS}
 use Rattle.table_defs.specs.Placement.{is_inside}
 use Rattle.table_defs.specs.Lookup.{AddressedRow}
-use Rattle.table_defs.specs.Walk.{Memory, Walks, lookup_address, registers_of, unwound}
+use Rattle.table_defs.specs.Walk.{Memory, Walks, lookup_address, registers_of, stacks_behind, unwound}
 use Rattle.orc_walk.specs.Rows.{row_at}
 use Rattle.orc_merge.specs.declared.part.Part.{Part}
 use Rattle.orc_merge.specs.MergeFaults.{merge_fault}
@@ -18,31 +19,31 @@ use Rattle.orc_merge.specs.Merged.{IsMergeOf}
 abbrev pub ranges_of_all : List Part → List Range
 ranges_of_all parts = flat_map (λ part. part.ranges.items) parts
 
--- From these registers the walk over rows at their addresses gives these frames, innermost first, and this stop. It is the walk over
--- an object's placed rows, but that these rows stand at their addresses already.
-pub data TableWalksFrom (rows : List AddressedRow) (ranges : List Range) (memory : Memory) : Bool → Regs → List Frame → Stop → Type 0 where
-  outside : {next : Bool} {regs : Regs}
+-- From these registers the walk over rows at their addresses, which may still visit so many other stacks, gives these frames,
+-- innermost first, and this stop. It is the walk over an object's placed rows, but that these rows stand at their addresses already.
+pub data TableWalksFrom (rows : List AddressedRow) (ranges : List Range) (memory : Memory) : ℕ → Bool → Regs → List Frame → Stop → Type 0 where
+  outside : {stacks : ℕ} {next : Bool} {regs : Regs}
       → is_inside ranges (lookup_address next regs.ip) ≡ false
-      → TableWalksFrom rows ranges memory next regs [] Outside
-  no_row : {next : Bool} {regs : Regs}
+      → TableWalksFrom rows ranges memory stacks next regs [] Outside
+  no_row : {stacks : ℕ} {next : Bool} {regs : Regs}
       → is_inside ranges (lookup_address next regs.ip) ≡ true
       → row_at (lookup_address next regs.ip) rows ≡ None
-      → TableWalksFrom rows ranges memory next regs [] NoRow
-  stops : {next : Bool} {regs : Regs} {row : Row} {stop : Stop}
+      → TableWalksFrom rows ranges memory stacks next regs [] NoRow
+  stops : {stacks : ℕ} {next : Bool} {regs : Regs} {row : Row} {stop : Stop}
       → is_inside ranges (lookup_address next regs.ip) ≡ true
       → row_at (lookup_address next regs.ip) rows ≡ Some row
-      → unwound memory regs row ≡ Err stop
-      → TableWalksFrom rows ranges memory next regs [] stop
-  goes_on : {next : Bool} {regs : Regs} {row : Row} {frame : Frame} {frames : List Frame} {stop : Stop}
+      → unwound memory stacks regs row ≡ Err stop
+      → TableWalksFrom rows ranges memory stacks next regs [] stop
+  goes_on : {stacks : ℕ} {next : Bool} {regs : Regs} {row : Row} {frame : Frame} {frames : List Frame} {stop : Stop}
       → is_inside ranges (lookup_address next regs.ip) ≡ true
       → row_at (lookup_address next regs.ip) rows ≡ Some row
-      → unwound memory regs row ≡ Ok frame
-      → TableWalksFrom rows ranges memory row.signal (registers_of frame) frames stop
-      → TableWalksFrom rows ranges memory next regs (frame ∷ frames) stop
+      → unwound memory stacks regs row ≡ Ok frame
+      → TableWalksFrom rows ranges memory (stacks_behind stacks row) row.signal (registers_of frame) frames stop
+      → TableWalksFrom rows ranges memory stacks next regs (frame ∷ frames) stop
 
 -- the walk from an interrupted or stopped thread's registers
 abbrev pub TableWalks : List AddressedRow → List Range → Memory → Regs → List Frame → Stop → Type 0
-TableWalks rows ranges memory regs frames stop = TableWalksFrom rows ranges memory true regs frames stop
+TableWalks rows ranges memory regs frames stop = TableWalksFrom rows ranges memory OTHER_STACKS true regs frames stop
 
 -- a stop that tells nothing of the stack: there is no row, or one of the undefined kind
 abbrev pub TellsNothing : Stop → Type 0
