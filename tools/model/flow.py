@@ -5,6 +5,7 @@ It is what docs/DEFINITIONS.md calls the program of an object.
 
 from typing import NamedTuple, Optional
 
+from copies import Copies
 from elf import Object, Place
 from functions import Functions
 from instructions import Code
@@ -55,6 +56,9 @@ class Flow(Points):
         self.may_return: set[Point] = returning(self)
         for point in self.points:
             self._follow_next(point)
+        self.copies = Copies(self)
+        self.insn.update(self.copies.operations())
+        self.relocated: set[Point] = {point for point in self.points if self._is_relocated(point)}
 
     def is_before_hint(self, point: Point) -> bool:
         """Whether all edges but those to fixups lead to points where a hint sets or restores the state, and there is one."""

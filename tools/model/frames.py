@@ -48,8 +48,8 @@ def move_bytes(delta: int) -> bytes:
 
 
 def rule_of_row(row) -> Optional[Rule]:
-    """The rule of a row of the unwind tables; none but that of a call's frame says one."""
-    if row.kind != 2:
+    """The rule of a row of the unwind tables; none but that of a call's frame says one, and of these those by rsp or rbp alone."""
+    if row.kind != 2 or row.sp_reg not in (4, 5) or row.bp_reg not in (0, 1):
         return None
     return Rule({5: RSP, 4: RBP}[row.sp_reg], row.sp_offset, {0: None, 1: row.bp_offset}[row.bp_reg])
 

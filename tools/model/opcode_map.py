@@ -20,6 +20,8 @@ class Entry(NamedTuple):
     operand: str = ""
     imm: str = ""
     writes: str = ""
+    # Whether it stands in the whole map alone.
+    added: bool = False
 
 
 class Prefixes(NamedTuple):
@@ -261,13 +263,13 @@ def added_lookup(prefixes: Prefixes, number: int, opcode: int):
     if number == 1:
         # XABORT; XBEGIN, not under 66. Other prefixes may stand, whatever they are.
         immediates = {0xC6: "ib"} if prefixes.opsize else {0xC6: "ib", 0xC7: "iz"}
-        return {0xF8: Entry("E", immediates[opcode])} if opcode in immediates else None
+        return {0xF8: Entry("E", immediates[opcode], added=True)} if opcode in immediates else None
     standing = {"6": prefixes.opsize, "3": prefixes.rep, "2": prefixes.repne}
     lines = lines_at(number, opcode, frozenset(name for name, there in standing.items() if there))
     for line in lines:
         if line.modrms is None:
-            return Entry("", line.imm)
-    return {modrm: Entry("E", line.imm, line.writes) for line in lines for modrm in line.modrms or ()} or None
+            return Entry("", line.imm, added=True)
+    return {modrm: Entry("E", line.imm, line.writes, added=True) for line in lines for modrm in line.modrms or ()} or None
 
 
 @lru_cache(maxsize=None)

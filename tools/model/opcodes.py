@@ -11,6 +11,7 @@ from typing import NamedTuple, Optional
 
 from extension import EVEX_MAPS, VEX_MAPS
 from opcode_map import Entry, Prefixes, lookup, map_has_some
+from writes import implied
 
 LEGACY = {0x66, 0x67, 0x2E, 0x36, 0x3E, 0x26, 0x64, 0x65, 0xF0, 0xF2, 0xF3}
 # Which map an opcode leads to.
@@ -19,6 +20,9 @@ LONGEST = 15
 # What stands before an instruction that a hypervisor emulates.
 EMULATED = (b"\x0f\x0bxen", b"\x0f\x0bkvm")
 RSP, RBP = 4, 5
+# The registers through which a function may find its frame while it aligns rsp.
+DRAP = 10, 13
+EVERY_REGISTER = 0xFFFF
 
 
 class Insn(NamedTuple):
@@ -30,6 +34,10 @@ class Insn(NamedTuple):
     # Of a direct branch: whether its distance has four bytes, so that a relocation can name its target; of an indirect jump: whether
     # a register holds its target.
     wide: bool = False
+    # The operation's register beside rsp, if it has one.
+    reg: Optional[int] = None
+    # The general registers that it may write, whatever its operation is: bit r for register r.
+    writes: int = 0
 
 
 class Fault(NamedTuple):
@@ -265,7 +273,7 @@ def spelled(code: bytes, start: int, whole: bool):
         spelling = read_spelling(code, start, whole)
     except Stop as stop:
         return stop.fault
-    return Insn(spelling.length, *operation(spelling))
+    return insn_of(spelling)
 
 
 def emulated(code: bytes, start: int) -> Optional[Insn]:
@@ -274,20 +282,46 @@ def emulated(code: bytes, start: int) -> Optional[Insn]:
     if before not in EMULATED:
         return None
     found = spelled(code[start + len(before) : start + LONGEST], 0, True)
-    plain = isinstance(found, Insn) and found.op == "Plain"
+    plain = isinstance(found, Insn) and found.op in ("Plain", "RegOther")
     return found._replace(length=len(before) + found.length) if plain else None
 
 
 def written(s: Spelling) -> set[int]:
-    """The registers that the instruction writes, by its entry in the map."""
+    """The registers that the instruction names and writes, by its entry in the map."""
+    if is_nop(s):
+        return set()
     registers = set()
     for write in s.entry.writes.split():
         fields = {"m": s.rm if s.modrm is not None else None, "r": s.reg if s.modrm is not None else None, "o": s.low}
         register = s.vector.vvvv if write == "v" and s.vector else fields[write[0]]
-        high_byte = write.endswith("b") and s.rex is None and register in range(4, 8)
-        if register is not None and not high_byte:
-            registers.add(register)
+        if register is not None:
+            # AH, CH, DH and BH are the second bytes of the first four registers.
+            high_byte = write.endswith("b") and s.rex is None and register in range(4, 8)
+            registers.add(register - 4 if high_byte else register)
     return registers
+
+
+def is_nop(s: Spelling) -> bool:
+    return s.map == 1 and s.opcode == 0x90 and not s.rex_bit(0)
+
+
+def mask_of(registers) -> int:
+    return sum(1 << register for register in registers)
+
+
+def all_writes(s: Spelling) -> int:
+    """The registers that the instruction may write, with what a pop writes, and what its opcode implies."""
+    popped = {popped_register(s)} - {None} if pops(s) else set()
+    return mask_of(written(s) | popped | implied(s))
+
+
+def pops(s: Spelling) -> bool:
+    return s.map == 1 and (0x58 <= s.opcode <= 0x5F or s.opcode == 0x8F)
+
+
+def popped_register(s: Spelling) -> Optional[int]:
+    """The register of a pop, where it isn't one into memory."""
+    return s.rm if s.opcode == 0x8F else s.low
 
 
 def sp_distance(s: Spelling) -> Optional[int]:
@@ -305,13 +339,23 @@ def bp_distance(s: Spelling) -> Optional[int]:
     return s.displacement if s.modrm & 7 == 5 and not s.rex_bit(0) else None
 
 
-def operation(s: Spelling) -> tuple:
-    """The operation's name, with its number and whether it is a wide branch, where it has them."""
+def register_distance(s: Spelling) -> Optional[tuple[int, int]]:
+    """R and k where the operand is k(R), addressed with no other prefix, R being r10 or r13."""
+    if s.mod not in (1, 2) or s.prefixes.addrsize or s.segment:
+        return None
+    base = (s.modrm & 7) + 8 * s.rex_bit(0)
+    return (base, s.displacement) if base in DRAP else None
+
+
+def insn_of(s: Spelling) -> Insn:
+    writes = all_writes(s)
     found = flow_operation(s) or stack_operation(s) or pointer_operation(s)
     if found:
-        return found
+        return Insn(s.length, *found)._replace(writes=writes)
     registers = written(s)
-    return ("SpOther",) if RSP in registers else ("BpOther",) if RBP in registers else ("Plain",)
+    name = "SpOther" if RSP in registers else "BpOther" if RBP in registers else "Plain"
+    realigning = writes & mask_of(DRAP)
+    return Insn(s.length, "RegOther", realigning, writes=writes) if name == "Plain" and realigning else Insn(s.length, name, writes=writes)
 
 
 ONE_BYTE_OPS = {
@@ -329,7 +373,7 @@ def flow_operation(s: Spelling) -> Optional[tuple]:
     if s.map == 1:
         if s.opcode in ONE_BYTE_OPS:
             return (ONE_BYTE_OPS[s.opcode],)
-        if s.opcode == 0x90 and not s.rex_bit(0):
+        if is_nop(s):
             return ("Nop",)
         if s.opcode == 0xCF:
             return ("Iret",) if s.wide else ("Switch",)
@@ -376,14 +420,18 @@ def stack_operation(s: Spelling) -> Optional[tuple]:
     """Pushes and pops of registers and memory."""
     if s.map != 1:
         return None
-    if 0x50 <= s.opcode <= 0x57:
-        return ("PushBp",) if s.low == RBP else ("Push",)
-    if s.opcode == 0xFF and s.digit == 6:
-        return ("PushBp",) if s.rm == RBP else ("Push",)
-    register = s.low if 0x58 <= s.opcode <= 0x5F else s.rm if s.opcode == 0x8F else None
-    if 0x58 <= s.opcode <= 0x5F or s.opcode == 0x8F:
-        return {RSP: ("SpOther",), RBP: ("PopBp",)}.get(register, ("Pop",))
+    if 0x50 <= s.opcode <= 0x57 or s.opcode == 0xFF and s.digit == 6:
+        register = s.low if s.opcode != 0xFF else s.rm
+        return of_register("PushReg", None, register) if register in DRAP else ("PushBp",) if register == RBP else ("Push",)
+    if pops(s):
+        register = popped_register(s)
+        return of_register("PopReg", None, register) if register in DRAP else {RSP: ("PopSp",), RBP: ("PopBp",)}.get(register, ("Pop",))
     return None
+
+
+def of_register(name: str, value: Optional[int], register: int) -> tuple:
+    """The operation of a register beside rsp."""
+    return name, value, False, register
 
 
 def pointer_operation(s: Spelling) -> Optional[tuple]:
@@ -394,10 +442,12 @@ def pointer_operation(s: Spelling) -> Optional[tuple]:
         return {0: ("AddSp", s.immediate), 5: ("AddSp", -s.immediate), 4: ("AndSp", s.immediate)}[s.digit]
     sp, bp = sp_distance(s), bp_distance(s)
     if s.opcode == 0x8D:
-        forms = {(RSP, True): ("AddSp", sp), (RBP, True): ("LeaBpSp", sp)}
-        if (s.reg, sp is not None) in forms:
-            return forms[s.reg, True]
-        return ("LeaSpBp", bp) if s.reg == RSP and bp is not None else None
+        if sp is not None:
+            return {RSP: ("AddSp", sp), RBP: ("LeaBpSp", sp)}.get(s.reg, of_register("LeaReg", sp, s.reg))
+        if s.reg == RSP and bp is not None:
+            return "LeaSpBp", bp
+        through = register_distance(s)
+        return of_register("LeaSpReg", through[1], through[0]) if s.reg == RSP and through is not None else None
     if s.opcode in (0x29, 0x2B) and s.mod == 3:
         source, target = (s.reg, s.rm) if s.opcode == 0x29 else (s.rm, s.reg)
         return ("SubSp",) if target == RSP and source != RSP else None
@@ -405,12 +455,49 @@ def pointer_operation(s: Spelling) -> Optional[tuple]:
         return None
     if s.mod == 3:
         source, target = (s.reg, s.rm) if s.opcode == 0x89 else (s.rm, s.reg)
-        if target == RSP and source not in (RSP, RBP):
-            return ("SpReg",)
-        return {(RBP, RSP): ("LeaSpBp", 0), (RSP, RBP): ("LeaBpSp", 0)}.get((source, target))
+        if RSP not in (source, target) or source == target:
+            return None
+        if RBP in (source, target):
+            return ("LeaBpSp" if source == RSP else "LeaSpBp"), 0
+        return of_register("LeaReg", 0, target) if source == RSP else of_register("SpReg", None, source)
     if s.reg == RBP and sp is not None:
         return ("StoreBp" if s.opcode == 0x89 else "LoadBp"), sp
-    return None
+    if s.opcode == 0x8B:
+        return of_register("LoadReg", bp, s.reg) if s.reg in DRAP and bp is not None else None
+    plain = s.mod == 0 and s.modrm & 7 not in (RSP, RBP) and not s.prefixes.addrsize and not s.segment
+    return of_register("StoreSp", None, (s.modrm & 7) + 8 * s.rex_bit(0)) if s.reg == RSP and plain else None
+
+
+class Stored(NamedTuple):
+    """A register that is stored at rsp plus a number."""
+
+    register: int
+    at: int
+
+
+def without_prefixes(code: bytes, start: int) -> Optional[Spelling]:
+    """The spelling in front, where it is one of the base map that begins with REX.W."""
+    try:
+        s = read_spelling(code, start, False)
+    except Stop:
+        return None
+    return s if s.map == 1 and s.wide and code[start] & 0xF0 == 0x40 else None
+
+
+def copy_of_bp(code: bytes, start: int) -> Optional[int]:
+    """The register to which rbp is moved, without legacy prefixes."""
+    s = without_prefixes(code, start)
+    if s is None or s.opcode not in (0x89, 0x8B) or s.mod != 3:
+        return None
+    source, target = (s.reg, s.rm) if s.opcode == 0x89 else (s.rm, s.reg)
+    return target if source == RBP else None
+
+
+def store_at_sp(code: bytes, start: int) -> Optional[Stored]:
+    """The register that is stored at a distance from rsp, without legacy prefixes."""
+    s = without_prefixes(code, start)
+    at = sp_distance(s) if s is not None and s.opcode == 0x89 else None
+    return Stored(s.reg, at) if at is not None else None
 
 
 def read_text(body: bytes, whole: bool = False):

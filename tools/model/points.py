@@ -7,15 +7,16 @@ from functions import Functions
 from instructions import Code
 from labels import spans_named, symbols_at
 from names import RETURNING, Names
-from opcodes import Insn
+from opcodes import EVERY_REGISTER, Insn
 from sites import Point, Sites
-from special import CALL, FUNC, RESTORE, SAVE, Hint, Special
+from special import CALL, FUNC, REGS, RESTORE, SAVE, Hint, Special
 from texts import Refused
 
 # The operations by a number: how far rsp or rbp moves, what rsp is masked with, or where rbp is saved or loaded.
-STACK_OFFSETS = "AddSp", "AndSp", "LeaSpBp", "LeaBpSp", "LeaBpRoom", "StoreBp", "LoadBp"
-# The operations that make room by a register.
-ROOM = "SubSp", "SpReg"
+STACK_OFFSETS = "AddSp", "AndSp", "LeaSpBp", "LeaBpSp", "LeaBpRoom", "StoreBp", "LoadBp", "Keep", "AndDrap", "StoreThrough"
+STACK_OFFSETS += "LeaSpReg", "LoadReg"
+# What writes rsp in a way by which its number isn't known.
+WRITES_SP = "SpReg", "SubSp", "SpOther", "PopSp", "LeaSpReg"
 SHORT_NOP = b"\x90"
 
 
@@ -69,7 +70,10 @@ class Points:
         self._by_place()
         # The points at whose own place a hint stands, and those for which one counts.
         self.own_hints: dict[Point, Hint] = {point: hint for point in self.points if (hint := self.own(point, self.hints)) is not None}
-        self.hint_at: dict[Point, Hint] = self.own_hints | self._hints_of_replacements()
+        loose, switching = special.loose, spans_named(object, names.switching)
+        self.loose: set[Point] = {point for point, at in self.address.items() if loose.hold(at)}
+        self.switching: set[Point] = {point for point, at in self.address.items() if switching.hold(at)}
+        self.hint_at: dict[Point, Hint] = self.own_hints | self._hints_of_replacements() | self._early_hints()
         self.restores: set[Point] = {point for point, hint in self.hint_at.items() if hint.kind == RESTORE}
         self.entries: list[Place] = [f.start for f in functions.list if self.is_entry(f.start)]
         # The points behind each, None at a section's end.
@@ -77,16 +81,11 @@ class Points:
         self.after: dict[Point, Optional[list[Point]]] = {
             point: self._arrive(behind[point]) if point in behind else sites.next_points(point) for point in self.points
         }
-        loose, switching = special.loose, spans_named(object, names.switching)
-        self.loose: set[Point] = {point for point, at in self.address.items() if loose.hold(at)}
-        self.switching: set[Point] = {point for point, at in self.address.items() if switching.hold(at)}
-        self.roomy = {self.owner[point] for point in self.points if sites.insn(point).op in ROOM} - {None}
         self.returning_symbols: dict[Place, int] = symbols_at(object, RETURNING)
         self.returning: dict[Point, Returning] = self._find_returning() if self.returning_symbols else {}
         self.insn: dict[Point, Insn] = {point: self._insn_of(point) for point in self.points}
         self.dead_ends: set[Point] = {point for point in self.points if self._is_dead_end(point)}
         self.marked: set[Point] = {point for point in self.points if self.reachable and self._is_marked(point)}
-        self.relocated: set[Point] = {point for point in self.points if self._is_relocated(point)}
 
     def _by_place(self) -> None:
         """What the special sections say of each place."""
@@ -135,6 +134,28 @@ class Points:
                 found.update((point, hint) for point in firsts if point not in self.own_hints)
         return found
 
+    def _early_hints(self) -> dict[Point, Hint]:
+        """The hints of full registers that hold an instruction early: rsp has been written, and only rbp is written besides."""
+        found = {}
+        for point, hint in self.own_hints.items():
+            if hint.kind != REGS or point.variant > 0:
+                continue
+            early = self._before(point)
+            if early is None or early in self.own_hints or self.sites.insn(early).op != "LeaBpSp" or self.sites.site_at(early.place) is not None:
+                continue
+            first = self._before(early)
+            if first is None or len({self.owner[first], self.owner[early], self.owner[point]}) > 1:
+                continue
+            insn = self.sites.insn(first)
+            if insn.op in WRITES_SP and not self._switches(first, insn):
+                found[early] = hint
+        return found
+
+    def _before(self, point: Point) -> Optional[Point]:
+        """The plain point that ends where this one stands."""
+        place = self.code.before(point.place)
+        return Point(place, 0) if place is not None else None
+
     def _ends_of_runs(self) -> dict[Point, Place]:
         """For each no-op of one byte in a site the end of the run in which it stands: a processor executes the run as one."""
         found: dict[Point, Place] = {}
@@ -159,24 +180,27 @@ class Points:
     def _insn_of(self, point: Point) -> Insn:
         """The instruction, as what stands around it has it be.
 
-        A call of code that returns for its caller leaves as a jump; another one that is listed as one within its function only pushes; rbp
-        becomes a base over room in a function that makes some; an iret with instructions of its own function right behind it goes on there,
-        and so does another way out, where hints there tell the stack; and a load of rsp that switches tasks comes back with rsp as it was.
+        A call of code that returns for its caller leaves as a jump; another one that is listed as one within its function only pushes; an
+        iret with instructions of its own function right behind it goes on there, and so does another way out, where hints there tell the
+        stack; and a load of rsp that switches tasks comes back with rsp as it was. What copies of rsp and rbp there are tells more
+        (`copies.py`).
         """
         insn = self.sites.insn(point)
         if insn.op == "Call" and point in self.returning:
             return insn._replace(op="Jmp", wide=True)
         if insn.op == "Call" and self.own(point, self.intra_calls):
             return insn._replace(op="Hop")
-        if insn.op == "LeaBpSp" and self.owner[point] in self.roomy:
-            return insn._replace(op="LeaBpRoom")
         if insn.op == "Iret" and self._is_within(point):
             return insn._replace(op="IretNext")
         if insn.op == "Switch" and self._is_within(point) and all(self._tells_frame(other) for other in self.after[point]):
             return insn._replace(op="SpOther")
-        if insn.op == "SpOther" and point in self.switching and self._loads_sp(point, insn):
-            return insn._replace(op="BpOther")
+        if self._switches(point, insn):
+            return insn._replace(op="BpOther", writes=EVERY_REGISTER)
         return insn
+
+    def _switches(self, point: Point, insn: Insn) -> bool:
+        """Whether it is a load of rsp by which tasks are switched."""
+        return insn.op == "SpOther" and point in self.switching and self._loads_sp(point, insn)
 
     def _is_within(self, point: Point) -> bool:
         """Whether instructions of its own function stand right behind it."""

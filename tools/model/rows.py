@@ -5,9 +5,9 @@ from typing import NamedTuple, Optional
 
 from elf import Place
 from sites import Point
-from states import Ended, Live, State
+from states import BARE, FRAMED, HOMED, PUSHED, Drap, Ended, Live, Poised, State, Switched
 
-SP_REG, BP_REG, PREV_REG = 5, 4, 1
+PREV_REG, BP_REG, SP_REG, R10_REG, R13_REG, BP_WORD_REG, SP_WORD_REG = 1, 4, 5, 6, 7, 8, 9
 CALL_KIND, REGS_KIND, PARTIAL_KIND = 2, 3, 4
 MOST_OFFSET, LEAST_OFFSET = 32_767, -32_768
 
@@ -31,11 +31,28 @@ def row_of(state: Optional[State]) -> Row:
         return ZERO
     if isinstance(state, Ended):
         return ZERO._replace(kind=state.kind)
+    if isinstance(state, Poised):
+        return row_of(state.live)
     if isinstance(state, Live):
-        sp_reg, sp_offset = (SP_REG, state.depth) if state.fp is None else (BP_REG, state.fp)
-        bp_reg, bp_offset = (0, 0) if state.saved is None else (PREV_REG, -state.saved)
-        return Row(sp_offset, bp_offset, sp_reg, bp_reg, CALL_KIND, False)
-    return Row(state.depth, 0, SP_REG, 0, REGS_KIND if state.full else PARTIAL_KIND, True)
+        return call_row(SP_REG, state.depth, state.saved) if state.fp is None else call_row(BP_REG, state.fp, state.saved)
+    if isinstance(state, Switched):
+        return call_row(SP_WORD_REG, state.depth, state.saved)
+    if isinstance(state, Drap):
+        return row_of_realigned(state)
+    return Row(state.depth, 0, SP_REG, 0, REGS_KIND if state.full else PARTIAL_KIND, not state.trap)
+
+
+def call_row(sp_reg: int, sp_offset: int, saved: Optional[int]) -> Row:
+    """By where cfa is found, and at what distance below it the caller's rbp is saved, if it is."""
+    bp_reg, bp_offset = (0, 0) if saved is None else (PREV_REG, -saved)
+    return Row(sp_offset, bp_offset, sp_reg, bp_reg, CALL_KIND, False)
+
+
+def row_of_realigned(state: Drap) -> Row:
+    sp_reg, sp_offset = (BP_WORD_REG, -state.home) if state.phase == HOMED else ({10: R10_REG, 13: R13_REG}[state.reg], 0)
+    # rbp points at the caller's, once it is the frame's base.
+    bp_reg = {BARE: 0, PUSHED: 0, FRAMED: BP_REG, HOMED: BP_REG}[state.phase]
+    return Row(sp_offset, 0, sp_reg, bp_reg, CALL_KIND, False)
 
 
 def offset_that_does_not_fit(row: Row) -> Optional[int]:

@@ -7,7 +7,8 @@ from labels import Uncovered, is_joined
 from remembered import remembered
 from rows import offset_that_does_not_fit, row_of, site_rows
 from sites import Point
-from states import INITIAL, Broken, Ended, Live, Regs, State, brought, kept_states, loses_stack, move, set_state
+from states import BARE, HOMED, Broken, Drap, Ended, Live, Poised, Regs, State, Switched
+from states import brought, is_call_frame, is_initial, kept_states, loses_stack, move, set_state
 from uaccess import access_warnings
 
 
@@ -64,8 +65,12 @@ def broken_rules(flow, options: Options) -> list[Warning]:
 
 
 def depth_number(state: State) -> int:
+    if isinstance(state, Poised):
+        return depth_number(state.live)
     if isinstance(state, Live):
         return -state.depth if state.at_least else state.depth
+    if isinstance(state, Drap):
+        return -state.size if state.phase == BARE else state.size
     return 0 if isinstance(state, Ended) else state.depth
 
 
@@ -77,7 +82,7 @@ def leaves_frame(flow, point) -> bool:
 
 def point_warnings(flow, point, state: State):
     """The rules on one kept point."""
-    live = isinstance(state, Live)
+    live = is_call_frame(state)
     returns, leaves = flow.role[point].kind == "Return", leaves_frame(flow, point)
     insn = flow.insn[point]
     if point in flow.bad:
@@ -86,15 +91,17 @@ def point_warnings(flow, point, state: State):
         yield 2,
     if point in flow.past_end and not (flow.owner[point] is None and isinstance(state, Ended)):
         yield 3,
-    if returns and live and (state != INITIAL or insn.op == "RetImm"):
+    if returns and live and (not is_initial(state) or insn.op == "RetImm"):
         yield 5, depth_number(state)
-    if leaves and live and state != INITIAL:
+    if leaves and live and not is_initial(state):
         yield 6, depth_number(state)
     try:
         move(state, insn)
     except Broken as broken:
         if not loses_stack(flow, point, broken) and (broken.rule != 7 or not flow.is_before_hint(point)):
             yield broken.rule,
+    if told_by_register(state) and flow.is_call(point) or loses_register(state) and any(edge.kind == "Fixup" for edge in flow.edges[point]):
+        yield 9,
     offset = offset_that_does_not_fit(row_of(state))
     if offset is not None:
         yield 10, offset
@@ -104,15 +111,36 @@ def point_warnings(flow, point, state: State):
         yield 15,
     if point in flow.into_function:
         yield 16,
-    if point in flow.relocated and not isinstance(state, Ended):
+    if is_relocated(flow, point, state):
         yield 19,
+
+
+def told_by_register(state: State) -> bool:
+    """Whether a register alone tells where the frame is, which nothing gives back that is called."""
+    return isinstance(state, Drap) and state.phase != HOMED
+
+
+def loses_register(state: State) -> bool:
+    """Whether a register that matters needn't be what it was where an exception goes on."""
+    return isinstance(state, Poised) or told_by_register(state)
+
+
+# What moves the stack by a number in a realigned frame alone.
+REALIGNED_OFFSETS = "LeaSpReg", "LoadReg"
+
+
+def is_relocated(flow, point, state: State) -> bool:
+    """Whether a linker changes the number by which the instruction moves the stack."""
+    if point not in flow.relocated or isinstance(state, Ended):
+        return False
+    return flow.insn[point].op not in REALIGNED_OFFSETS or isinstance(state, Drap)
 
 
 def wrong_switch(op: str, state: State) -> bool:
     """Control may be handed over where no stack is followed; an iret may besides take the words that an interrupt pushed."""
     if op == "Switch":
         return not isinstance(state, Ended)
-    return op == "Iret" and not isinstance(state, Ended) and state != Regs(False, 0)
+    return op == "Iret" and not isinstance(state, Ended) and not (isinstance(state, Regs) and not state.full and state.depth == 0)
 
 
 def join_warnings(flow, kept: dict):
@@ -125,7 +153,8 @@ def join_warnings(flow, kept: dict):
 
 
 def site_warnings(flow, kept: dict):
-    """Rule 12: variants of a site with different rows at one offset, or where a call that some variant makes returns to."""
+    """Rule 12: variants of a site with different rows at one offset, or at the last byte of a call or breakpoint of some variant, by which
+    what comes behind it is looked up."""
     for site in flow.sites.list:
         if Point(site.start, 0) not in kept:
             continue
@@ -134,7 +163,7 @@ def site_warnings(flow, kept: dict):
             if len(set(there)) > 1:
                 yield Warning(site.start, 12, offset)
         for point in flow.sites.points_of(site):
-            if point in kept and flow.is_call(point):
+            if point in kept and (flow.is_call(point) or flow.insn[point].op == "Int3"):
                 last = flow.address[point].off + flow.insn[point].length - 1 - site.start.off
                 in_force = rows[max(offset for offset in rows if offset <= last)][0]
                 if in_force != row_of(kept[point]):
@@ -193,9 +222,10 @@ def unreachable_code(flow, kept: dict, has_holes: bool):
 def call_without_frame(flow, point, state: State) -> bool:
     """Rule 21: a call other than to `__fentry__`, without rbp at the word where the caller's rbp is saved, right below the return
     address."""
-    if not flow.is_call(point) or not isinstance(state, Live):
+    if not flow.is_call(point) or not is_call_frame(state):
         return False
-    return (state.fp, state.saved) != (16, 16) and not calls_fentry(flow, point)
+    has_frame = isinstance(state, (Live, Switched)) and (state.fp, state.saved) == (16, 16)
+    return not has_frame and not calls_fentry(flow, point)
 
 
 def calls_fentry(flow, point) -> bool:

@@ -48,6 +48,8 @@ class Hint(NamedTuple):
     place: Place
     sp_offset: int
     kind: int
+    # Of an interrupt's frame: whether it is a breakpoint's, whose saved ip is that of the next instruction.
+    trap: bool = False
 
 
 class Special:
@@ -165,7 +167,7 @@ def read_hint(special: Special, entry: Entry, body: bytes, at: int) -> None:
     faults = {
         "HintBase": kind in (CALL, REGS, REGS_PARTIAL) and sp_reg != SP,
         "HintOffset": sp_offset < {CALL: 8, REGS: 0, REGS_PARTIAL: 0}.get(kind, sp_offset),
-        "HintSignal": signal != {CALL: 0, FUNC: 0, REGS: 1, REGS_PARTIAL: 1}.get(kind, signal),
+        "HintSignal": signal > {CALL: 0, FUNC: 0, REGS: 1, REGS_PARTIAL: 1}.get(kind, signal),
     }
     if special.loose.hold(place):
         # What such code says of a stack that can't be told is that nothing is known of it.
@@ -173,7 +175,7 @@ def read_hint(special: Special, entry: Entry, body: bytes, at: int) -> None:
         return
     for why, is_met in faults.items():
         entry.ask(not is_met, why)
-    special.hints.append(Hint(place, sp_offset, kind))
+    special.hints.append(Hint(place, sp_offset, kind, kind in (REGS, REGS_PARTIAL) and signal == 0))
 
 
 TABLES = (
