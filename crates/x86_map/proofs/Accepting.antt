@@ -26,7 +26,7 @@ use Rattle.x86_map.proofs.Looks.{look_append}
 
 -- what follows an opcode with no operand
 abbrev pub plain : ℕ → Shape
-plain imm = record { modrm = false; imm = imm; written = record { byte = false; write = Nothing } }
+plain imm = record { modrm = false; imm = imm; written = record { byte = false; write = Nothing; implied = 0 } }
 
 -- HLT stands with any prefixes
 pub look-hlt : (p : Prefixes) → leads_to p 1 ≡ true → look p 1 0xF4 None ≡ Fits (plain 0)

@@ -1,6 +1,6 @@
 -- The opcodes behind EVEX (SDM, volume 2, chapters 3 to 5): 66, F3 and F2 are told by pp. Where it changes neither the length nor what
 -- is written, a row takes each pp.
--- Each row: opcodes, operand, immediate, which of the named registers it writes, prefixes.
+-- Each row: opcodes, operand, immediate, which registers it writes, prefixes.
 use Rattle.std.specs.Prelude.{List, [], ◌∷◌}
 use Rattle.x86_map.specs.declared.form.Immediate.TheVariants.{Ib}
 use Rattle.x86_map.specs.Row.{Row, row, ◌to◌, E, no_imm, nothing, any, only, M, Gv, with_F3_no_66, with_F2_no_66, with_66, no_F2_F3, Ev, R, no_66_F2_F3}

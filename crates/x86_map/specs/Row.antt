@@ -1,5 +1,5 @@
 -- The words in which the rows of the opcode map are written, by the letters of appendix A of the SDM.
-use Rattle.std.specs.Prelude.{ℕ, Bool, true, false, ◌&&◌, ◌==◌, nat_le, List}
+use Rattle.std.specs.Prelude.{ℕ, ◌+◌, ◌^◌, Bool, true, false, ◌&&◌, ◌==◌, nat_le, List, [], ◌∷◌}
 use Rattle.std.specs.List.{list_any}
 use Rattle.x86_map.specs.declared.shape.Written.{Written}
 use Rattle.x86_map.specs.declared.shape.Write.TheVariants.{Nothing, Rm, Reg, Both, Opcode, Vvvv, RegAndVvvv}
@@ -78,37 +78,92 @@ Jz = Iz
 -- or more (v)
 
 abbrev pub nothing : Written
-nothing = record { byte = false; write = Nothing }
+nothing = record { byte = false; write = Nothing; implied = 0 }
 
 abbrev pub Eb : Written
-Eb = record { byte = true; write = Rm }
+Eb = record { byte = true; write = Rm; implied = 0 }
 
 abbrev pub Ev : Written
-Ev = record { byte = false; write = Rm }
+Ev = record { byte = false; write = Rm; implied = 0 }
 
 abbrev pub Gb : Written
-Gb = record { byte = true; write = Reg }
+Gb = record { byte = true; write = Reg; implied = 0 }
 
 abbrev pub Gv : Written
-Gv = record { byte = false; write = Reg }
+Gv = record { byte = false; write = Reg; implied = 0 }
 
 abbrev pub EGb : Written
-EGb = record { byte = true; write = Both }
+EGb = record { byte = true; write = Both; implied = 0 }
 
 abbrev pub EGv : Written
-EGv = record { byte = false; write = Both }
+EGv = record { byte = false; write = Both; implied = 0 }
 
 abbrev pub Zb : Written
-Zb = record { byte = true; write = Opcode }
+Zb = record { byte = true; write = Opcode; implied = 0 }
 
 abbrev pub Zv : Written
-Zv = record { byte = false; write = Opcode }
+Zv = record { byte = false; write = Opcode; implied = 0 }
 
 abbrev pub Vv : Written
-Vv = record { byte = false; write = Vvvv }
+Vv = record { byte = false; write = Vvvv; implied = 0 }
 
 abbrev pub GVv : Written
-GVv = record { byte = false; write = RegAndVvvv }
+GVv = record { byte = false; write = RegAndVvvv; implied = 0 }
+
+-- ---- written registers that nothing names: by their numbers, rAX is 0, rCX 1, rDX 2, rBX 3, rSP 4, rBP 5, rSI 6, rDI 7
+
+-- registers by the bits of a number: bit r tells register r
+abbrev pub registers : List ℕ → ℕ
+registers [] = 0
+registers (r ∷ rs) = 2 ^ r + registers rs
+
+-- a written register that is named, or none, and those besides
+abbrev pub besides : Written → List ℕ → Written
+besides named others = record named { implied = registers others }
+
+abbrev pub rAX : Written
+rAX = besides nothing (0 ∷ [])
+
+abbrev pub rCX : Written
+rCX = besides nothing (1 ∷ [])
+
+abbrev pub rDX : Written
+rDX = besides nothing (2 ∷ [])
+
+abbrev pub rBP : Written
+rBP = besides nothing (5 ∷ [])
+
+abbrev pub rDX_rAX : Written
+rDX_rAX = besides nothing (2 ∷ 0 ∷ [])
+
+abbrev pub rDX_rAX_rCX : Written
+rDX_rAX_rCX = besides nothing (2 ∷ 0 ∷ 1 ∷ [])
+
+abbrev pub rAX_rBX_rCX_rDX : Written
+rAX_rBX_rCX_rDX = besides nothing (0 ∷ 3 ∷ 1 ∷ 2 ∷ [])
+
+abbrev pub rDI_rCX : Written
+rDI_rCX = besides nothing (7 ∷ 1 ∷ [])
+
+abbrev pub rSI_rCX : Written
+rSI_rCX = besides nothing (6 ∷ 1 ∷ [])
+
+abbrev pub rSI_rDI_rCX_rAX : Written
+rSI_rDI_rCX_rAX = besides nothing (6 ∷ 7 ∷ 1 ∷ 0 ∷ [])
+
+-- all sixteen
+abbrev pub every : Written
+every = record nothing { implied = 0xFFFF }
+
+-- rAX besides the one that is named
+abbrev pub Eb_rAX : Written
+Eb_rAX = besides Eb (0 ∷ [])
+
+abbrev pub Ev_rAX : Written
+Ev_rAX = besides Ev (0 ∷ [])
+
+abbrev pub Zv_rAX : Written
+Zv_rAX = besides Zv (0 ∷ [])
 
 -- ---- prefixes: which may stand, must or must not
 

@@ -1,5 +1,5 @@
 -- The opcodes behind 0F 38 that the map has (SDM, volume 2, table A-4).
--- Each row: opcodes, operand, immediate, which of the named registers it writes, prefixes.
+-- Each row: opcodes, operand, immediate, which registers it writes, prefixes.
 use Rattle.std.specs.Prelude.{List, [], ◌∷◌}
 use Rattle.x86_map.specs.Row.{Row, row, ◌to◌, one_of, E, M, no_imm, nothing, Gv, no_F2_F3, with_F2, with_F3_no_66, with_66}
 

@@ -1,8 +1,8 @@
 -- The opcodes behind 0F 38 and 0F 3A that the extension has (SDM, volume 2, tables A-4 and A-5).
--- Each row: opcodes, operand, immediate, which of the named registers it writes, prefixes.
+-- Each row: opcodes, operand, immediate, which registers it writes, prefixes.
 use Rattle.std.specs.Prelude.{List, [], ◌∷◌}
 use Rattle.x86_map.specs.declared.form.Immediate.TheVariants.{Ib}
-use Rattle.x86_map.specs.Row.{Row, row, ◌to◌, E, no_imm, nothing, no_F2_F3, only, with_66, M, no_66_F2_F3, with_F3_no_66, with_F2_no_66, Ev, Gv, R}
+use Rattle.x86_map.specs.Row.{Row, row, ◌to◌, E, no_imm, nothing, rCX, no_F2_F3, only, with_66, M, no_66_F2_F3, with_F3_no_66, with_F2_no_66, Ev, Gv, R}
 
 -- behind 0F 38
 abbrev pub extension_0F_38 : List Row
@@ -54,7 +54,7 @@ extension_0F_3A =
     ∷ row (0x40 to 0x42) E Ib nothing with_66
     -- PCLMULQDQ; PCMPESTRM, PCMPESTRI, PCMPISTRM, PCMPISTRI
     ∷ row (only 0x44) E Ib nothing with_66
-    ∷ row (0x60 to 0x63) E Ib nothing with_66
+    ∷ row (0x60 to 0x63) E Ib rCX with_66
     -- SHA1RNDS4; GF2P8AFFINEQB, GF2P8AFFINEINVQB; AESKEYGENASSIST
     ∷ row (only 0xCC) E Ib nothing no_66_F2_F3
     ∷ row (0xCE to 0xCF) E Ib nothing with_66

@@ -1,39 +1,39 @@
 -- The opcodes behind 0F that the extension has (SDM, volume 2, table A-3, with the groups of table A-6; of SVM AMD's manual, volume 3).
--- Each row: opcodes, operand, immediate, which of the named registers it writes, prefixes.
+-- Each row: opcodes, operand, immediate, which registers it writes, prefixes. Groups 6, 7 and 9, GETSEC and RSM are told to write every register.
 use Rattle.std.specs.Prelude.{List, [], ◌∷◌}
 use Rattle.x86_map.specs.declared.form.Immediate.TheVariants.{Ib}
-use Rattle.x86_map.specs.Row.{Row, row, only, E-of, no_imm, nothing, with_F2_no_66, bytes, no_66_F2_F3, with_66, with_F3_no_66, M-of, ◌to◌, E, no_F2_F3, M, Gv, none, R, R-of, Ev}
+use Rattle.x86_map.specs.Row.{Row, row, only, E-of, no_imm, nothing, every, with_F2_no_66, bytes, no_66_F2_F3, with_66, with_F3_no_66, M-of, ◌to◌, E, no_F2_F3, M, Gv, none, R, R-of, Ev}
 
 abbrev pub extension_0F : List Row
 extension_0F =
     -- group 6: LKGS
-    row (only 0x00) (E-of 6 6) no_imm nothing with_F2_no_66
+    row (only 0x00) (E-of 6 6) no_imm every with_F2_no_66
     -- group 7: ENCLV; VMLAUNCH, VMRESUME, VMXOFF, PCONFIG, WRMSRNS; ENCLS; VMFUNC, XEND, XTEST, ENCLU, VMRUN
-    ∷ row (only 0x01) (bytes 0xC0 0xC0) no_imm nothing no_66_F2_F3
-    ∷ row (only 0x01) (bytes 0xC2 0xC7) no_imm nothing no_66_F2_F3
-    ∷ row (only 0x01) (bytes 0xCC 0xCF) no_imm nothing no_66_F2_F3
-    ∷ row (only 0x01) (bytes 0xD2 0xD8) no_imm nothing no_66_F2_F3
+    ∷ row (only 0x01) (bytes 0xC0 0xC0) no_imm every no_66_F2_F3
+    ∷ row (only 0x01) (bytes 0xC2 0xC7) no_imm every no_66_F2_F3
+    ∷ row (only 0x01) (bytes 0xCC 0xCF) no_imm every no_66_F2_F3
+    ∷ row (only 0x01) (bytes 0xD2 0xD8) no_imm every no_66_F2_F3
     -- group 7: VMLOAD to INVLPGA; reserved bytes; MONITORX, MWAITX, CLZERO, RDPRU, INVLPGB, TLBSYNC
-    ∷ row (only 0x01) (bytes 0xDA 0xDF) no_imm nothing no_66_F2_F3
-    ∷ row (only 0x01) (bytes 0xE9 0xED) no_imm nothing no_66_F2_F3
-    ∷ row (only 0x01) (bytes 0xFA 0xFF) no_imm nothing no_66_F2_F3
+    ∷ row (only 0x01) (bytes 0xDA 0xDF) no_imm every no_66_F2_F3
+    ∷ row (only 0x01) (bytes 0xE9 0xED) no_imm every no_66_F2_F3
+    ∷ row (only 0x01) (bytes 0xFA 0xFF) no_imm every no_66_F2_F3
     -- group 7: TDCALL, SEAMOPS, SEAMCALL; RDMSRLIST, WRMSRLIST; VMGEXIT; RSTORSSP, SETSSBSY, SAVEPREVSSP
-    ∷ row (only 0x01) (bytes 0xCC 0xCC) no_imm nothing with_66
-    ∷ row (only 0x01) (bytes 0xCE 0xCF) no_imm nothing with_66
-    ∷ row (only 0x01) (bytes 0xC6 0xC6) no_imm nothing with_F2_no_66
-    ∷ row (only 0x01) (bytes 0xC6 0xC6) no_imm nothing with_F3_no_66
-    ∷ row (only 0x01) (bytes 0xD9 0xD9) no_imm nothing with_F2_no_66
-    ∷ row (only 0x01) (bytes 0xD9 0xD9) no_imm nothing with_F3_no_66
-    ∷ row (only 0x01) (M-of 5 5) no_imm nothing with_F3_no_66
-    ∷ row (only 0x01) (bytes 0xE8 0xE8) no_imm nothing with_F3_no_66
-    ∷ row (only 0x01) (bytes 0xEA 0xEA) no_imm nothing with_F3_no_66
+    ∷ row (only 0x01) (bytes 0xCC 0xCC) no_imm every with_66
+    ∷ row (only 0x01) (bytes 0xCE 0xCF) no_imm every with_66
+    ∷ row (only 0x01) (bytes 0xC6 0xC6) no_imm every with_F2_no_66
+    ∷ row (only 0x01) (bytes 0xC6 0xC6) no_imm every with_F3_no_66
+    ∷ row (only 0x01) (bytes 0xD9 0xD9) no_imm every with_F2_no_66
+    ∷ row (only 0x01) (bytes 0xD9 0xD9) no_imm every with_F3_no_66
+    ∷ row (only 0x01) (M-of 5 5) no_imm every with_F3_no_66
+    ∷ row (only 0x01) (bytes 0xE8 0xE8) no_imm every with_F3_no_66
+    ∷ row (only 0x01) (bytes 0xEA 0xEA) no_imm every with_F3_no_66
     -- group 7: ERETU; ERETS; UIRET, TESTUI, CLUI, STUI; MCOMMIT; RMPQUERY, RMPADJUST, PSMASH; RMPUPDATE, PVALIDATE
-    ∷ row (only 0x01) (bytes 0xCA 0xCA) no_imm nothing with_F3_no_66
-    ∷ row (only 0x01) (bytes 0xCA 0xCA) no_imm nothing with_F2_no_66
-    ∷ row (only 0x01) (bytes 0xEC 0xEF) no_imm nothing with_F3_no_66
-    ∷ row (only 0x01) (bytes 0xFA 0xFA) no_imm nothing with_F3_no_66
-    ∷ row (only 0x01) (bytes 0xFD 0xFF) no_imm nothing with_F3_no_66
-    ∷ row (only 0x01) (bytes 0xFE 0xFF) no_imm nothing with_F2_no_66
+    ∷ row (only 0x01) (bytes 0xCA 0xCA) no_imm every with_F3_no_66
+    ∷ row (only 0x01) (bytes 0xCA 0xCA) no_imm every with_F2_no_66
+    ∷ row (only 0x01) (bytes 0xEC 0xEF) no_imm every with_F3_no_66
+    ∷ row (only 0x01) (bytes 0xFA 0xFA) no_imm every with_F3_no_66
+    ∷ row (only 0x01) (bytes 0xFD 0xFF) no_imm every with_F3_no_66
+    ∷ row (only 0x01) (bytes 0xFE 0xFF) no_imm every with_F2_no_66
     -- MOVUPS, MOVUPD, MOVSS, MOVSD
     ∷ row (0x10 to 0x11) E no_imm nothing no_F2_F3
     ∷ row (0x10 to 0x11) E no_imm nothing with_F3_no_66
@@ -66,7 +66,7 @@ extension_0F =
     ∷ row (0x2C to 0x2D) E no_imm Gv with_F2_no_66
     ∷ row (0x2E to 0x2F) E no_imm nothing no_F2_F3
     -- GETSEC
-    ∷ row (only 0x37) none no_imm nothing no_66_F2_F3
+    ∷ row (only 0x37) none no_imm every no_66_F2_F3
     -- MOVMSK; SQRT; RSQRT, RCP; AND, ANDN, OR, XOR; ADD, MUL; CVT of floats; CVTDQ2PS, CVTPS2DQ, CVTTPS2DQ; SUB, MIN, DIV, MAX
     ∷ row (only 0x50) R no_imm Gv no_F2_F3
     ∷ row (only 0x51) E no_imm nothing no_F2_F3
@@ -116,7 +116,7 @@ extension_0F =
     ∷ row (only 0x7F) E no_imm nothing no_F2_F3
     ∷ row (only 0x7F) E no_imm nothing with_F3_no_66
     -- RSM
-    ∷ row (only 0xAA) none no_imm nothing no_66_F2_F3
+    ∷ row (only 0xAA) none no_imm every no_66_F2_F3
     -- group 15: PTWRITE; INCSSP; CLRSSBSY; UMONITOR, UMWAIT, TPAUSE
     ∷ row (only 0xAE) (E-of 4 4) no_imm nothing with_F3_no_66
     ∷ row (only 0xAE) (R-of 5 5) no_imm nothing with_F3_no_66
@@ -131,9 +131,9 @@ extension_0F =
     ∷ row (only 0xC5) R Ib Gv no_F2_F3
     ∷ row (only 0xC6) E Ib nothing no_F2_F3
     -- group 9: VMPTRLD, VMCLEAR, VMXON; VMPTRST; SENDUIPI
-    ∷ row (only 0xC7) (M-of 6 6) no_imm nothing no_F2_F3
-    ∷ row (only 0xC7) (E-of 6 6) no_imm nothing with_F3_no_66
-    ∷ row (only 0xC7) (M-of 7 7) no_imm nothing no_66_F2_F3
+    ∷ row (only 0xC7) (M-of 6 6) no_imm every no_F2_F3
+    ∷ row (only 0xC7) (E-of 6 6) no_imm every with_F3_no_66
+    ∷ row (only 0xC7) (M-of 7 7) no_imm every no_66_F2_F3
     -- ADDSUB; MMX and SSE2: shifts, sums, products; MOVQ, MOVQ2DQ, MOVDQ2Q; PMOVMSKB
     ∷ row (only 0xD0) E no_imm nothing with_66
     ∷ row (only 0xD0) E no_imm nothing with_F2_no_66

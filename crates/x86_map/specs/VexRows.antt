@@ -1,8 +1,8 @@
 -- The opcodes behind VEX (SDM, volume 2, tables A-3 to A-5 and chapters 3 to 5): 66, F3 and F2 are told by pp.
--- Each row: opcodes, operand, immediate, which of the named registers it writes, prefixes.
+-- Each row: opcodes, operand, immediate, which registers it writes, prefixes.
 use Rattle.std.specs.Prelude.{List, [], ◌∷◌}
 use Rattle.x86_map.specs.declared.form.Immediate.TheVariants.{Ib}
-use Rattle.x86_map.specs.Row.{Row, row, ◌to◌, E, no_imm, nothing, any, only, M, Gv, with_F3_no_66, with_F2_no_66, R, no_F2_F3, with_66, none, no_66_F2_F3, Ev, M-of, E-of, Vv, GVv, bytes}
+use Rattle.x86_map.specs.Row.{Row, row, ◌to◌, E, no_imm, nothing, rCX, any, only, M, Gv, with_F3_no_66, with_F2_no_66, R, no_F2_F3, with_66, none, no_66_F2_F3, Ev, M-of, E-of, Vv, GVv, bytes}
 
 -- map 1, the map behind 0F
 abbrev pub vex_0F : List Row
@@ -144,7 +144,7 @@ vex_0F_3A =
     ∷ row (0x68 to 0x6F) E Ib nothing with_66
     ∷ row (0x78 to 0x7F) E Ib nothing with_66
     -- VPCMPESTRM to VPCMPISTRI; VGF2P8AFFINE; VSM3RNDS2, VAESKEYGENASSIST; RORX
-    ∷ row (0x60 to 0x63) E Ib nothing with_66
+    ∷ row (0x60 to 0x63) E Ib rCX with_66
     ∷ row (0xCE to 0xCF) E Ib nothing with_66
     ∷ row (0xDE to 0xDF) E Ib nothing with_66
     ∷ row (only 0xF0) E Ib Gv with_F2_no_66

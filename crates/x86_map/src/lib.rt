@@ -1,5 +1,5 @@
 //! An opcode map of x86-64 in 64-bit mode: which opcodes, ModRM bytes and prefixes go together, how long the immediate is
-//! and which of the registers that they name is written (Intel SDM, volume 2, chapter 2 and appendix A). It is this
+//! and which general registers are written (Intel SDM, volume 2, chapter 2 and appendix A). It is this
 //! project's cut of the manual's map, a base map and a whole one: `docs/OPCODES.md` lists what each leaves out, and where it is
 //! wider.
 #![tactic(auto)]

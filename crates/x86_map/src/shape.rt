@@ -1,5 +1,4 @@
-/// Which general register an instruction writes, of those that ModRM, the opcode or VEX names. What it does to others, as MUL
-/// to rDX or PUSH to rSP, isn't said here.
+/// Which general register an instruction writes, of those that ModRM, the opcode or VEX names.
 #[derive(Clone, Copy, PartialEq, Eq)]
 pub enum Write {
     /// None.
@@ -18,13 +17,16 @@ pub enum Write {
     RegAndVvvv,
 }
 
-/// Which registers an instruction writes, and of which size.
+/// Which general registers an instruction writes. What the instructions of the stack and of the flow of control do to rSP isn't
+/// said here.
 #[derive(Clone, Copy, PartialEq, Eq)]
 pub struct Written {
-    /// Whether they are byte registers: there the numbers 4 to 7 without a REX are AH, CH, DH and BH.
+    /// Whether those that are named are byte registers: there the numbers 4 to 7 without a REX are AH, CH, DH and BH.
     pub byte: bool,
-    /// Which registers.
+    /// Which of the registers that ModRM, the opcode or VEX names.
     pub write: Write,
+    /// Those that nothing names, as MUL writes rDX: bit r tells register r. It may tell more than a processor writes.
+    pub implied: u16,
 }
 
 /// What follows the opcode, and what is written.

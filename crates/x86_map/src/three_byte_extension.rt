@@ -55,7 +55,7 @@ static EXTENSION_0F_3A_ROWS: [OpcodeRange; 10] = [
     row!(0x40..=0x42, E, Ib, nothing, with_66),
     // PCLMULQDQ; PCMPESTRM, PCMPESTRI, PCMPISTRM, PCMPISTRI
     row!(0x44, E, Ib, nothing, with_66),
-    row!(0x60..=0x63, E, Ib, nothing, with_66),
+    row!(0x60..=0x63, E, Ib, rCX, with_66),
     // SHA1RNDS4; GF2P8AFFINEQB, GF2P8AFFINEINVQB; AESKEYGENASSIST
     row!(0xCC, E, Ib, nothing, no_66_F2_F3),
     row!(0xCE..=0xCF, E, Ib, nothing, with_66),

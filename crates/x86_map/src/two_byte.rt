@@ -12,9 +12,9 @@ static TWO_BYTE: [&[Form]; 256] = [
     one!(E, no_imm, Gv, no_F2_F3), // 02 LAR
     one!(E, no_imm, Gv, no_F2_F3), // 03 LSL
     &[], // 04
-    one!(none, no_imm, nothing, no_66_F2_F3), // 05 SYSCALL
+    one!(none, no_imm, every, no_66_F2_F3), // 05 SYSCALL
     one!(none, no_imm, nothing, no_F2_F3), // 06 CLTS
-    one!(none, no_imm, nothing, no_66_F2_F3), // 07 SYSRET
+    one!(none, no_imm, every, no_66_F2_F3), // 07 SYSRET
     one!(none, no_imm, nothing, no_F2_F3), // 08 INVD
     one!(none, no_imm, nothing, no_F2), // 09 WBINVD, WBNOINVD
     &[], // 0A
@@ -56,11 +56,11 @@ static TWO_BYTE: [&[Form]; 256] = [
     &[], // 2E
     &[], // 2F
     one!(none, no_imm, nothing, no_F2_F3), // 30 WRMSR
-    one!(none, no_imm, nothing, no_F2_F3), // 31 RDTSC
-    one!(none, no_imm, nothing, no_F2_F3), // 32 RDMSR
-    one!(none, no_imm, nothing, no_F2_F3), // 33 RDPMC
-    one!(none, no_imm, nothing, no_66_F2_F3), // 34 SYSENTER
-    one!(none, no_imm, nothing, no_66_F2_F3), // 35 SYSEXIT
+    one!(none, no_imm, rDX_rAX, no_F2_F3), // 31 RDTSC
+    one!(none, no_imm, rDX_rAX, no_F2_F3), // 32 RDMSR
+    one!(none, no_imm, rDX_rAX, no_F2_F3), // 33 RDPMC
+    one!(none, no_imm, every, no_66_F2_F3), // 34 SYSENTER
+    one!(none, no_imm, every, no_66_F2_F3), // 35 SYSEXIT
     &[], // 36
     &[], // 37
     &[], // 38
@@ -169,7 +169,7 @@ static TWO_BYTE: [&[Form]; 256] = [
     one!(E, no_imm, Eb, no_F2_F3), // 9F SETNLE
     one!(none, no_imm, nothing, no_66_F2_F3), // A0 PUSH FS
     one!(none, no_imm, nothing, no_66_F2_F3), // A1 POP FS
-    one!(none, no_imm, nothing, no_F2_F3), // A2 CPUID
+    one!(none, no_imm, rAX_rBX_rCX_rDX, no_F2_F3), // A2 CPUID
     one!(E, no_imm, nothing, no_F2_F3), // A3 BT
     one!(E, Ib, Ev, no_F2_F3), // A4 SHLD
     one!(E, no_imm, Ev, no_F2_F3), // A5 SHLD
@@ -183,8 +183,8 @@ static TWO_BYTE: [&[Form]; 256] = [
     one!(E, no_imm, Ev, no_F2_F3), // AD SHRD
     GROUP_15, // AE group 15
     one!(E, no_imm, Gv, no_F2_F3), // AF IMUL
-    one!(E, no_imm, Eb, no_F2_F3), // B0 CMPXCHG
-    one!(E, no_imm, Ev, no_F2_F3), // B1 CMPXCHG
+    one!(E, no_imm, Eb_rAX, no_F2_F3), // B0 CMPXCHG
+    one!(E, no_imm, Ev_rAX, no_F2_F3), // B1 CMPXCHG
     one!(M, no_imm, Gv, no_F2_F3), // B2 LSS
     one!(E, no_imm, Ev, no_F2_F3), // B3 BTR
     one!(M, no_imm, Gv, no_F2_F3), // B4 LFS

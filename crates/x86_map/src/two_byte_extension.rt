@@ -10,33 +10,33 @@ use crate::words::{form, immediate, operand, prefixes, row, written};
 /// The opcodes behind 0F that the extension has (SDM, volume 2, table A-3).
 static EXTENSION_0F_ROWS: [OpcodeRange; 124] = [
     // group 6: LKGS
-    row!(0x00, E[6..=6], no_imm, nothing, with_F2_no_66),
+    row!(0x00, E[6..=6], no_imm, every, with_F2_no_66),
     // group 7: ENCLV; VMLAUNCH, VMRESUME, VMXOFF, PCONFIG, WRMSRNS; ENCLS; VMFUNC, XEND, XTEST, ENCLU, VMRUN
-    row!(0x01, bytes[0xC0..=0xC0], no_imm, nothing, no_66_F2_F3),
-    row!(0x01, bytes[0xC2..=0xC7], no_imm, nothing, no_66_F2_F3),
-    row!(0x01, bytes[0xCC..=0xCF], no_imm, nothing, no_66_F2_F3),
-    row!(0x01, bytes[0xD2..=0xD8], no_imm, nothing, no_66_F2_F3),
+    row!(0x01, bytes[0xC0..=0xC0], no_imm, every, no_66_F2_F3),
+    row!(0x01, bytes[0xC2..=0xC7], no_imm, every, no_66_F2_F3),
+    row!(0x01, bytes[0xCC..=0xCF], no_imm, every, no_66_F2_F3),
+    row!(0x01, bytes[0xD2..=0xD8], no_imm, every, no_66_F2_F3),
     // group 7: VMLOAD to INVLPGA; reserved bytes; MONITORX, MWAITX, CLZERO, RDPRU, INVLPGB, TLBSYNC
-    row!(0x01, bytes[0xDA..=0xDF], no_imm, nothing, no_66_F2_F3),
-    row!(0x01, bytes[0xE9..=0xED], no_imm, nothing, no_66_F2_F3),
-    row!(0x01, bytes[0xFA..=0xFF], no_imm, nothing, no_66_F2_F3),
+    row!(0x01, bytes[0xDA..=0xDF], no_imm, every, no_66_F2_F3),
+    row!(0x01, bytes[0xE9..=0xED], no_imm, every, no_66_F2_F3),
+    row!(0x01, bytes[0xFA..=0xFF], no_imm, every, no_66_F2_F3),
     // group 7: TDCALL, SEAMOPS, SEAMCALL; RDMSRLIST, WRMSRLIST; VMGEXIT; RSTORSSP, SETSSBSY, SAVEPREVSSP
-    row!(0x01, bytes[0xCC..=0xCC], no_imm, nothing, with_66),
-    row!(0x01, bytes[0xCE..=0xCF], no_imm, nothing, with_66),
-    row!(0x01, bytes[0xC6..=0xC6], no_imm, nothing, with_F2_no_66),
-    row!(0x01, bytes[0xC6..=0xC6], no_imm, nothing, with_F3_no_66),
-    row!(0x01, bytes[0xD9..=0xD9], no_imm, nothing, with_F2_no_66),
-    row!(0x01, bytes[0xD9..=0xD9], no_imm, nothing, with_F3_no_66),
-    row!(0x01, M[5..=5], no_imm, nothing, with_F3_no_66),
-    row!(0x01, bytes[0xE8..=0xE8], no_imm, nothing, with_F3_no_66),
-    row!(0x01, bytes[0xEA..=0xEA], no_imm, nothing, with_F3_no_66),
+    row!(0x01, bytes[0xCC..=0xCC], no_imm, every, with_66),
+    row!(0x01, bytes[0xCE..=0xCF], no_imm, every, with_66),
+    row!(0x01, bytes[0xC6..=0xC6], no_imm, every, with_F2_no_66),
+    row!(0x01, bytes[0xC6..=0xC6], no_imm, every, with_F3_no_66),
+    row!(0x01, bytes[0xD9..=0xD9], no_imm, every, with_F2_no_66),
+    row!(0x01, bytes[0xD9..=0xD9], no_imm, every, with_F3_no_66),
+    row!(0x01, M[5..=5], no_imm, every, with_F3_no_66),
+    row!(0x01, bytes[0xE8..=0xE8], no_imm, every, with_F3_no_66),
+    row!(0x01, bytes[0xEA..=0xEA], no_imm, every, with_F3_no_66),
     // group 7: ERETU; ERETS; UIRET, TESTUI, CLUI, STUI; MCOMMIT; RMPQUERY, RMPADJUST, PSMASH; RMPUPDATE, PVALIDATE
-    row!(0x01, bytes[0xCA..=0xCA], no_imm, nothing, with_F3_no_66),
-    row!(0x01, bytes[0xCA..=0xCA], no_imm, nothing, with_F2_no_66),
-    row!(0x01, bytes[0xEC..=0xEF], no_imm, nothing, with_F3_no_66),
-    row!(0x01, bytes[0xFA..=0xFA], no_imm, nothing, with_F3_no_66),
-    row!(0x01, bytes[0xFD..=0xFF], no_imm, nothing, with_F3_no_66),
-    row!(0x01, bytes[0xFE..=0xFF], no_imm, nothing, with_F2_no_66),
+    row!(0x01, bytes[0xCA..=0xCA], no_imm, every, with_F3_no_66),
+    row!(0x01, bytes[0xCA..=0xCA], no_imm, every, with_F2_no_66),
+    row!(0x01, bytes[0xEC..=0xEF], no_imm, every, with_F3_no_66),
+    row!(0x01, bytes[0xFA..=0xFA], no_imm, every, with_F3_no_66),
+    row!(0x01, bytes[0xFD..=0xFF], no_imm, every, with_F3_no_66),
+    row!(0x01, bytes[0xFE..=0xFF], no_imm, every, with_F2_no_66),
     // MOVUPS, MOVUPD, MOVSS, MOVSD
     row!(0x10..=0x11, E, no_imm, nothing, no_F2_F3),
     row!(0x10..=0x11, E, no_imm, nothing, with_F3_no_66),
@@ -69,7 +69,7 @@ static EXTENSION_0F_ROWS: [OpcodeRange; 124] = [
     row!(0x2C..=0x2D, E, no_imm, Gv, with_F2_no_66),
     row!(0x2E..=0x2F, E, no_imm, nothing, no_F2_F3),
     // GETSEC
-    row!(0x37, none, no_imm, nothing, no_66_F2_F3),
+    row!(0x37, none, no_imm, every, no_66_F2_F3),
     // MOVMSK; SQRT; RSQRT, RCP; AND, ANDN, OR, XOR; ADD, MUL; CVT of floats; CVTDQ2PS, CVTPS2DQ, CVTTPS2DQ; SUB, MIN, DIV, MAX
     row!(0x50, R, no_imm, Gv, no_F2_F3),
     row!(0x51, E, no_imm, nothing, no_F2_F3),
@@ -119,7 +119,7 @@ static EXTENSION_0F_ROWS: [OpcodeRange; 124] = [
     row!(0x7F, E, no_imm, nothing, no_F2_F3),
     row!(0x7F, E, no_imm, nothing, with_F3_no_66),
     // RSM
-    row!(0xAA, none, no_imm, nothing, no_66_F2_F3),
+    row!(0xAA, none, no_imm, every, no_66_F2_F3),
     // group 15: PTWRITE; INCSSP; CLRSSBSY; UMONITOR, UMWAIT, TPAUSE
     row!(0xAE, E[4..=4], no_imm, nothing, with_F3_no_66),
     row!(0xAE, R[5..=5], no_imm, nothing, with_F3_no_66),
@@ -134,9 +134,9 @@ static EXTENSION_0F_ROWS: [OpcodeRange; 124] = [
     row!(0xC5, R, Ib, Gv, no_F2_F3),
     row!(0xC6, E, Ib, nothing, no_F2_F3),
     // group 9: VMPTRLD, VMCLEAR, VMXON; VMPTRST; SENDUIPI
-    row!(0xC7, M[6..=6], no_imm, nothing, no_F2_F3),
-    row!(0xC7, E[6..=6], no_imm, nothing, with_F3_no_66),
-    row!(0xC7, M[7..=7], no_imm, nothing, no_66_F2_F3),
+    row!(0xC7, M[6..=6], no_imm, every, no_F2_F3),
+    row!(0xC7, E[6..=6], no_imm, every, with_F3_no_66),
+    row!(0xC7, M[7..=7], no_imm, every, no_66_F2_F3),
     // ADDSUB; MMX and SSE2: shifts, sums, products; MOVQ, MOVQ2DQ, MOVDQ2Q; PMOVMSKB
     row!(0xD0, E, no_imm, nothing, with_66),
     row!(0xD0, E, no_imm, nothing, with_F2_no_66),

@@ -16,13 +16,16 @@ pub(crate) const GROUP_7: &[Form] = &[
     form!(E[4..=4], no_imm, Ev, no_F2_F3),
     form!(E[6..=6], no_imm, nothing, no_F2_F3),
     form!(M[7..=7], no_imm, nothing, no_F2_F3),
-    form!(bytes[0xC1..=0xC1], no_imm, nothing, no_66_F2_F3),
+    form!(bytes[0xC1..=0xC1], no_imm, every, no_66_F2_F3),
     form!(bytes[0xC8..=0xCB], no_imm, nothing, no_66_F2_F3),
-    form!(bytes[0xD0..=0xD1], no_imm, nothing, no_66_F2_F3),
-    form!(bytes[0xD9..=0xD9], no_imm, nothing, no_66_F2_F3),
+    form!(bytes[0xD0..=0xD0], no_imm, rDX_rAX, no_66_F2_F3),
+    form!(bytes[0xD1..=0xD1], no_imm, nothing, no_66_F2_F3),
+    form!(bytes[0xD9..=0xD9], no_imm, every, no_66_F2_F3),
     form!(bytes[0xE8..=0xE8], no_imm, nothing, no_66_F2_F3),
-    form!(bytes[0xEE..=0xEF], no_imm, nothing, no_66_F2_F3),
-    form!(bytes[0xF8..=0xF9], no_imm, nothing, no_66_F2_F3),
+    form!(bytes[0xEE..=0xEE], no_imm, rDX_rAX, no_66_F2_F3),
+    form!(bytes[0xEF..=0xEF], no_imm, nothing, no_66_F2_F3),
+    form!(bytes[0xF8..=0xF8], no_imm, nothing, no_66_F2_F3),
+    form!(bytes[0xF9..=0xF9], no_imm, rDX_rAX_rCX, no_66_F2_F3),
 ];
 
 /// F3 0F 1E: RDSSP; ENDBR64, ENDBR32.
@@ -48,7 +51,7 @@ pub(crate) const GROUP_8: &[Form] = &[
 
 /// 0F C7: CMPXCHG8B; XRSTORS, XSAVEC, XSAVES; RDRAND; RDSEED, RDPID.
 pub(crate) const GROUP_9: &[Form] = &[
-    form!(M[1..=1], no_imm, nothing, no_F2_F3),
+    form!(M[1..=1], no_imm, rDX_rAX, no_F2_F3),
     form!(M[3..=5], no_imm, nothing, no_F2_F3),
     form!(R[6..=6], no_imm, Ev, no_F2_F3),
     form!(R[7..=7], no_imm, Ev, no_F2),

@@ -144,7 +144,7 @@ static VEX_0F_3A_ROWS: [OpcodeRange; 20] = [
     row!(0x68..=0x6F, E, Ib, nothing, with_66),
     row!(0x78..=0x7F, E, Ib, nothing, with_66),
     // VPCMPESTRM to VPCMPISTRI; VGF2P8AFFINE; VSM3RNDS2, VAESKEYGENASSIST; RORX
-    row!(0x60..=0x63, E, Ib, nothing, with_66),
+    row!(0x60..=0x63, E, Ib, rCX, with_66),
     row!(0xCE..=0xCF, E, Ib, nothing, with_66),
     row!(0xDE..=0xDF, E, Ib, nothing, with_66),
     row!(0xF0, E, Ib, Gv, with_F2_no_66),

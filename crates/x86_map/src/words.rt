@@ -21,9 +21,23 @@ macro_rules! immediate {
     ($immediate:ident) => { $crate::form::Immediate::$immediate };
 }
 
-/// Which register is written: of the rm field (E), the reg field (G), both (EG), the opcode (Z), vvvv (V), or the reg field and
-/// vvvv (GV); a byte register (b) or another (v).
+/// Which registers are written: of the rm field (E), the reg field (G), both (EG), the opcode (Z), vvvv (V), or the reg field and
+/// vvvv (GV); a byte register (b) or another (v); and those that nothing names, by their own names.
 macro_rules! written {
+    (rAX) => { written!(false, Nothing, 1) };
+    (rCX) => { written!(false, Nothing, 2) };
+    (rDX) => { written!(false, Nothing, 4) };
+    (rBP) => { written!(false, Nothing, 32) };
+    (rDX_rAX) => { written!(false, Nothing, 4 + 1) };
+    (rDX_rAX_rCX) => { written!(false, Nothing, 4 + 1 + 2) };
+    (rAX_rBX_rCX_rDX) => { written!(false, Nothing, 1 + 8 + 2 + 4) };
+    (rDI_rCX) => { written!(false, Nothing, 128 + 2) };
+    (rSI_rCX) => { written!(false, Nothing, 64 + 2) };
+    (rSI_rDI_rCX_rAX) => { written!(false, Nothing, 64 + 128 + 2 + 1) };
+    (every) => { written!(false, Nothing, 0xFFFF) };
+    (Eb_rAX) => { written!(true, Rm, 1) };
+    (Ev_rAX) => { written!(false, Rm, 1) };
+    (Zv_rAX) => { written!(false, Opcode, 1) };
     (nothing) => { written!(false, Nothing) };
     (Eb) => { written!(true, Rm) };
     (Ev) => { written!(false, Rm) };
@@ -35,7 +49,10 @@ macro_rules! written {
     (Zv) => { written!(false, Opcode) };
     (Vv) => { written!(false, Vvvv) };
     (GVv) => { written!(false, RegAndVvvv) };
-    ($byte:literal, $write:ident) => { $crate::shape::Written { byte: $byte, write: $crate::shape::Write::$write } };
+    ($byte:literal, $write:ident) => { written!($byte, $write, 0) };
+    ($byte:literal, $write:ident, $implied:expr) => {
+        $crate::shape::Written { byte: $byte, write: $crate::shape::Write::$write, implied: $implied }
+    };
 }
 
 /// Which of 66, 67, F3, F2 and REX.B may stand, must or must not.
