@@ -3,14 +3,14 @@ use Rattle.std.proofs.Common.{◌≡◌, ℕ, List, [], ◌∷◌, ◌++◌, map
 use Rattle.std.specs.Prelude.{Option, Some, None, All, flat_map}
 use Rattle.std.proofs.lemmas.List.Elements.{All-nil, All-cons, All-head, All-tail, All-append}
 use Rattle.state_defs.specs.declared.state.EndKind.{EndKind}
-use Rattle.state_defs.specs.Region.{Region, word_at, Stores}
+use Rattle.state_defs.specs.Region.{Memory, word_at, Holds, Stores}
 use Rattle.state_defs.specs.Frame.{Frame, Protected, protected, protected_addresses, listed}
 
-All_front : {X : Type 0} (P : X → Type 0) (xs ys : List X) → All P (xs ++ ys) → All P xs
+pub All_front : {X : Type 0} (P : X → Type 0) (xs ys : List X) → All P (xs ++ ys) → All P xs
 All_front P [] ys h = All-nil P
 All_front P (x ∷ xs) ys h = All-cons P x xs (All-head P x (xs ++ ys) h) (All_front P xs ys (All-tail P x (xs ++ ys) h))
 
-All_back : {X : Type 0} (P : X → Type 0) (xs ys : List X) → All P (xs ++ ys) → All P ys
+pub All_back : {X : Type 0} (P : X → Type 0) (xs ys : List X) → All P (xs ++ ys) → All P ys
 All_back P [] ys h = h
 All_back P (x ∷ xs) ys h = All_back P xs ys (All-tail P x (xs ++ ys) h)
 
@@ -44,10 +44,14 @@ each_listed P None (f ∷ frames) h =
     each_joined P f (listed f.ended_caller frames) (each_top P f frames h) (each_listed P f.ended_caller frames (each_below P f frames h))
 
 -- ordinary stores spare each slot
-pub spared_slots : (frames : List Frame) (before after : Region) → Stores (protected_addresses frames) before after
+pub spared_slots : (frames : List Frame) (before after : Memory) → Stores (protected_addresses frames) before after
     → Each (λ slot. word_at after slot.at ≡ word_at before slot.at) frames
 spared_slots frames before after s =
     unmapped (λ (address : ℕ). word_at after address ≡ word_at before address) (λ (slot : Protected). slot.at) (flat_map protected frames) s.spared
+
+-- each holds its value
+abbrev pub EachHeld : Memory → List Frame → Type 0
+EachHeld memory frames = Each (λ (slot : Protected). Holds memory slot.at slot.value) frames
 
 -- lists of one, two and three
 pub one_slot : (P : Protected → Type 0) (x : Protected) → P x → All P (x ∷ [])

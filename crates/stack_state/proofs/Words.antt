@@ -1,12 +1,12 @@
--- Words of memory under writes.
+-- Words of a region under writes.
 use Rattle.std.proofs.Common.{◌≡◌, ◌⊎◌, inl, inr, ℕ, ◌+◌, ◌-◌, ◌^◌, ◌<◌, ◌≤◌, true, false, List, length, get_or, take, drop, arith, refl, sym, ap, ◌∙◌, length-drop}
 use Rattle.std.specs.Prelude.{Option, Some, None, slice_get, nat_le}
 use Rattle.std.proofs.lemmas.List.{ext_get_or, get_or-take, get_or-drop, length-take}
 use Rattle.std.proofs.lemmas.Bool.{le-leb, leb-true, cases_Bool, cond-true, cond-false, and_from, and_parts}
-use Rattle.std.proofs.lemmas.Option.{unwrap_or-slice_get, MatchOption-at_some}
+use Rattle.std.proofs.lemmas.Option.{unwrap_or-slice_get}
 use Rattle.std.specs.Option.{unwrap_or}
 use Rattle.state_defs.specs.Address.{up}
-use Rattle.state_defs.specs.Region.{Region, hi_of, byte_at, little_endian, has_word, word_at, Reads, Holds, SameAddresses, WritesOnly, WritesWord}
+use Rattle.state_defs.specs.Region.{Region, hi_of, byte_at, little_endian, has_word, word_in, SameAddresses, WritesOnlyIn}
 use Rattle.stack_state.proofs.Addresses.{up_plain}
 
 -- the eight bytes from an address on lie in the region
@@ -22,10 +22,10 @@ has_word_from r address e =
 has_word_is : (r : Region) (address : ℕ) → HasWord r address → has_word r address ≡ true
 has_word_is r address w = and_from _ _ (le-leb _ _ w.from) (le-leb _ _ w.upto)
 
-word_inside : (r : Region) (address : ℕ) → has_word r address ≡ true → word_at r address ≡ Some (little_endian (take 8 (drop (address - r.lo) r.bytes)))
+word_inside : (r : Region) (address : ℕ) → has_word r address ≡ true → word_in r address ≡ Some (little_endian (take 8 (drop (address - r.lo) r.bytes)))
 word_inside r address e = cond-true (has_word r address) _ _ e
 
-word_outside : (r : Region) (address : ℕ) → has_word r address ≡ false → word_at r address ≡ None
+word_outside : (r : Region) (address : ℕ) → has_word r address ≡ false → word_in r address ≡ None
 word_outside r address e = cond-false (has_word r address) _ _ e
 
 byte_inside : (r : Region) (address : ℕ) → r.lo ≤ address → byte_at r address ≡ slice_get r.bytes (address - r.lo)
@@ -47,7 +47,7 @@ same_numbers xs ys i n h e f =
 
 -- a word whose bytes stay is the same word
 pub same_word : (before after : Region) (address : ℕ) → SameAddresses before after
-    → ((j : ℕ) → j < 8 → byte_at after (address + j) ≡ byte_at before (address + j)) → word_at after address ≡ word_at before address
+    → ((j : ℕ) → j < 8 → byte_at after (address + j) ≡ byte_at before (address + j)) → word_in after address ≡ word_in before address
 same_word before after address s f =
     let same_test : has_word after address ≡ has_word before address = rw (s.lo, s.size) refl in
     elim (cases_Bool (has_word before address)) [
@@ -70,30 +70,22 @@ same_word before after address s f =
     ]
 
 -- a word beside a write that doesn't wrap stays
-pub spared_word : (start size : ℕ) (before after : Region) (address : ℕ) → WritesOnly start size before after
-    → start + size ≤ 2 ^ 64 → (address + 8 ≤ start) ⊎ (start + size ≤ address) → word_at after address ≡ word_at before address
-spared_word start size before after address w short side =
+pub spared_word_in : (start size : ℕ) (before after : Region) (address : ℕ) → WritesOnlyIn start size before after
+    → start + size ≤ 2 ^ 64 → (address + 8 ≤ start) ⊎ (start + size ≤ address) → word_in after address ≡ word_in before address
+spared_word_in start size before after address w short side =
     same_word before after address w.addresses
     (λ j lt. w.others (address + j)
     (λ i below e.
     let plain : up start i ≡ start + i = up_plain start i (omega arith) in
     elim side [ inl h ↦ omega (arith, h, plain, e) | inr h ↦ omega (arith, h, plain, e) ]))
 
--- what is read where a word stands is that word
-pub read_held : (r : Region) (address held word : ℕ) → Holds r address held → Reads r address word → word ≡ held
-read_held r address held word h read = MatchOption-at_some (word < 2 ^ 64) (λ (v : ℕ). word ≡ v) held h read
+-- a word that lies in the region is some number
+pub word_there : (r : Region) (address : ℕ) → HasWord r address → (word : ℕ) × (word_in r address ≡ Some word)
+word_there r address inside = (little_endian (take 8 (drop (address - r.lo) r.bytes)), word_inside r address (has_word_is r address inside))
 
--- a word that was written in the region stands there
-pub written_word : (address value : ℕ) (before after : Region) → WritesWord address value before after → HasWord after address → Holds after address value
-written_word address value before after w inside =
-    let holds : has_word after address ≡ true = has_word_is after address inside in
-    let there : word_at after address ≡ Some (little_endian (take 8 (drop (address - after.lo) after.bytes))) = word_inside after address holds in
-    let e : value ≡ little_endian (take 8 (drop (address - after.lo) after.bytes)) = read_held after address _ value there w.word in
-    there ∙ ap (λ (v : ℕ). Some v) (sym e)
-
-pub held_has_word : (r : Region) (address held : ℕ) → Holds r address held → HasWord r address
-held_has_word r address held h =
+pub there_has_word : (r : Region) (address word : ℕ) → word_in r address ≡ Some word → HasWord r address
+there_has_word r address word h =
     elim (cases_Bool (has_word r address)) [
       | inl holds ↦ has_word_from r address holds
-      | inr fails ↦ let e : None ≡ Some held = sym (word_outside r address fails) ∙ h in cc
+      | inr fails ↦ let e : None ≡ Some word = sym (word_outside r address fails) ∙ h in cc
     ]

@@ -2,11 +2,4 @@
 //! stack machine.
 #![tactic(auto)]
 
-pub mod laws;
-mod live;
-mod moves;
-mod numbers;
-mod regs;
-
-pub use moves::{initial, step};
-pub use state_defs::{BpHome, Depth, EndKind, HintState, State};
+pub use state_defs::State;
