@@ -12,9 +12,11 @@ from sites import Point, Sites
 from special import CALL, FUNC, REGS, RESTORE, SAVE, Hint, Special
 from texts import Refused
 
-# The operations by a number: how far rsp or rbp moves, what rsp is masked with, or where rbp is saved or loaded.
-STACK_OFFSETS = "AddSp", "AndSp", "LeaSpBp", "LeaBpSp", "LeaBpRoom", "StoreBp", "LoadBp", "Keep", "AndDrap", "StoreThrough"
-STACK_OFFSETS += "LeaSpReg", "LoadReg"
+# The operations by a number: how far rsp or rbp moves, what rsp is masked with, where rbp is saved or loaded, how far from rsp a register
+# is set, or rsp from one of those that may have a realigned frame's cfa, or where these are loaded.
+STACK_OFFSETS = {
+    "AddSp", "AndSp", "AndDrap", "LeaSpBp", "LeaBpSp", "LeaBpRoom", "LeaReg", "Keep", "LeaSpReg", "LoadReg", "StoreBp", "StoreThrough", "LoadBp",
+}  # fmt: skip
 # What writes rsp in a way by which its number isn't known.
 WRITES_SP = "SpReg", "SubSp", "SpOther", "PopSp", "LeaSpReg"
 SHORT_NOP = b"\x90"

@@ -7,7 +7,7 @@ from labels import Uncovered, is_joined
 from remembered import remembered
 from rows import offset_that_does_not_fit, row_of, site_rows
 from sites import Point
-from states import BARE, HOMED, Broken, Drap, Ended, Live, Poised, Regs, State, Switched
+from states import BARE, HOMED, Broken, Drap, Ended, Live, Poised, Regs, State
 from states import brought, is_call_frame, is_initial, kept_states, loses_stack, move, set_state
 from uaccess import access_warnings
 
@@ -98,7 +98,7 @@ def point_warnings(flow, point, state: State):
     try:
         move(state, insn)
     except Broken as broken:
-        if not loses_stack(flow, point, broken) and (broken.rule != 7 or not flow.is_before_hint(point)):
+        if not loses_stack(flow, point, state, broken) and (broken.rule != 7 or not flow.is_before_hint(point)):
             yield broken.rule,
     if told_by_register(state) and flow.is_call(point) or loses_register(state) and any(edge.kind == "Fixup" for edge in flow.edges[point]):
         yield 9,
@@ -131,9 +131,10 @@ REALIGNED_OFFSETS = "LeaSpReg", "LoadReg"
 
 def is_relocated(flow, point, state: State) -> bool:
     """Whether a linker changes the number by which the instruction moves the stack."""
-    if point not in flow.relocated or isinstance(state, Ended):
+    op = flow.insn[point].op
+    if point not in flow.relocated or isinstance(state, Ended) or op == "LeaReg":
         return False
-    return flow.insn[point].op not in REALIGNED_OFFSETS or isinstance(state, Drap)
+    return op not in REALIGNED_OFFSETS or isinstance(state, Drap)
 
 
 def wrong_switch(op: str, state: State) -> bool:
@@ -224,7 +225,8 @@ def call_without_frame(flow, point, state: State) -> bool:
     address."""
     if not flow.is_call(point) or not is_call_frame(state):
         return False
-    has_frame = isinstance(state, (Live, Switched)) and (state.fp, state.saved) == (16, 16)
+    frame = state.live if isinstance(state, Poised) else state
+    has_frame = not isinstance(frame, Drap) and (frame.fp, frame.saved) == (16, 16)
     return not has_frame and not calls_fentry(flow, point)
 
 

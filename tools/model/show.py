@@ -14,34 +14,62 @@ from elf import parse
 from flow import NEXT, Flow
 from functions import Functions
 from names import Names
+from opcodes import DRAP, Insn
+from points import STACK_OFFSETS
 from rows import row_of
 from sites import Point
 from special import RESTORE, SAVE
-from states import Ended, Live, State, hint_state, kept_states
+from states import BARE, FRAMED, HOMED, PUSHED, Drap, Ended, Live, Poised, Regs, State, Switched, hint_state, kept_states
 from texts import KINDS, Refused, escaped, place_text, row_words
 
-# The operations by their words, and those of them behind which their number stands.
+# The operations by their words, and those of them behind which their register stands, or their number.
 OPERATIONS = {
-    "Plain": "plain", "Nop": "nop", "Endbr": "endbr", "Push": "push", "PushBp": "push-bp", "Pop": "pop", "PopBp": "pop-bp",
-    "Popf": "popf", "AddSp": "add-sp", "AndSp": "and-sp", "LeaSpBp": "lea-sp-bp", "LeaBpSp": "lea-bp-sp", "LeaBpRoom": "lea-bp-room",
-    "SubSp": "sub-sp", "SpReg": "sp-reg", "StoreBp": "store-bp", "LoadBp": "load-bp", "Leave": "leave", "SpOther": "sp-other",
+    "Plain": "plain", "RegOther": "reg-other", "Nop": "nop", "Endbr": "endbr", "Push": "push", "PushReg": "push-reg", "PushBp": "push-bp",
+    "Pop": "pop", "PopReg": "pop-reg", "PopBp": "pop-bp", "Popf": "popf", "AddSp": "add-sp", "AndSp": "and-sp", "AndDrap": "and-drap",
+    "LeaSpBp": "lea-sp-bp", "LeaBpSp": "lea-bp-sp", "LeaBpRoom": "lea-bp-room", "LeaReg": "lea-reg", "Keep": "keep",
+    "LeaSpReg": "lea-sp-reg", "LoadReg": "load-reg", "SubSp": "sub-sp", "SpReg": "sp-reg", "BackSp": "back-sp", "StoreSp": "store-sp",
+    "CellSp": "cell-sp", "PopSp": "pop-sp", "StoreBp": "store-bp", "CopyBp": "copy-bp", "StoreThrough": "store-through",
+    "LoadBp": "load-bp", "Leave": "leave", "SpOther": "sp-other",
     "BpOther": "bp-other", "Call": "call", "Hop": "hop", "CallInd": "call-indirect", "Jmp": "jump", "Jcc": "jump-if",
     "JmpInd": "jump-indirect", "Ret": "return", "RetImm": "return-and-drop", "Iret": "iret", "IretNext": "iret-next",
     "Switch": "switch", "Ud2": "ud2", "Int3": "int3", "Stac": "stac", "Clac": "clac",
 }  # fmt: skip
-NUMBERED = "AddSp", "AndSp", "LeaSpBp", "LeaBpSp", "LeaBpRoom", "StoreBp", "LoadBp"
+NUMBERED = STACK_OFFSETS
+REGISTERS = ["rax", "rcx", "rdx", "rbx", "rsp", "rbp", "rsi", "rdi", *(f"r{number}" for number in range(8, 16))]
+PHASES = {BARE: "bare", PUSHED: "pushed", FRAMED: "framed", HOMED: "homed"}
 
 
 def state_words(state: Optional[State]) -> str:
-    """A kept state: its row, and the depth where that isn't told by the row; of an ended stack the kind of its row alone."""
+    """A kept state: its row, and what of it that doesn't tell."""
     if state is None:
         return "not reached"
     if isinstance(state, Ended):
         return f"ended: {KINDS[state.kind]}"
-    depth = ""
-    if isinstance(state, Live) and (state.at_least or state.fp is not None):
-        depth = f" depth{' at least' if state.at_least else ''} {state.depth}"
-    return row_words(row_of(state)) + depth
+    row = row_words(row_of(state))
+    match state:
+        case Live(at_least, depth, fp, _, copy):
+            told = at_least or fp is not None
+            copied = "" if copy is None else f", copy {REGISTERS[copy.reg]} {depth_words(copy.at_least, copy.depth)}"
+            return row + (f" depth {depth_words(at_least, depth)}" if told else "") + copied
+        case Regs(_, _, trap):
+            return row + (" trap" if trap else "")
+        case Poised(live):
+            return f"poised {state_words(live)}"
+        case Switched(depth, _, fp):
+            return f"switched {depth} {row}" + ("" if fp is None else f" base {fp}")
+        case Drap(reg, phase, size, home):
+            return f"realigned {REGISTERS[reg]} {PHASES[phase]} {size}" + (f" at {home}" if phase == HOMED else "")
+
+
+def depth_words(at_least: bool, depth: int) -> str:
+    return f"at least {depth}" if at_least else str(depth)
+
+
+def registers_of(insn: Insn) -> list[int]:
+    """The registers that an operation names."""
+    if insn.op == "RegOther":
+        return [register for register in DRAP if insn.value >> register & 1]
+    return [insn.reg] if insn.reg is not None else []
 
 
 class Listing:
@@ -96,7 +124,8 @@ class Listing:
 
     def operation(self, point: Point) -> str:
         insn = self.flow.insn[point]
-        return OPERATIONS[insn.op] + (f" {insn.value}" if insn.op in NUMBERED else "")
+        registers = [REGISTERS[register] for register in registers_of(insn)]
+        return " ".join([OPERATIONS[insn.op], *registers, *([str(insn.value)] if insn.op in NUMBERED else [])])
 
     def target(self, point: Point) -> str:
         """Where a call or a way out of the function leads."""

@@ -339,7 +339,7 @@ def raise_sp_regs(state: Regs, by: int) -> Regs:
 
 def move_poised(state: Poised, op: str, value: Optional[int], reg: Optional[int]) -> Switched:
     """rsp goes to the word at which it was saved."""
-    ask(acts_as(op, reg) == "SpReg", 7)
+    ask(op == "SpReg", 7)
     return Switched(state.live.depth, state.live.saved, state.live.fp)
 
 
@@ -438,9 +438,10 @@ def set_state(flow, point) -> Optional[State]:
     return hint_state(hint) if hint is not None else None
 
 
-def loses_stack(flow, point, broken: Broken) -> bool:
-    """Whether the stack is lost there without a warning: in loose code, by what is done to rsp or rbp."""
-    return point in flow.loose and broken.rule in (7, 8, 9, 11)
+def loses_stack(flow, point, state: State, broken: Broken) -> bool:
+    """Whether the stack is lost there without a warning: in loose code, by what is done to rsp or rbp, but not on the way to another
+    stack."""
+    return point in flow.loose and broken.rule in (7, 8, 9, 11) and not isinstance(state, Poised)
 
 
 def brought_along(flow, point, state: State):
@@ -452,7 +453,7 @@ def brought_along(flow, point, state: State):
     try:
         after = move(state, flow.insn[point])
     except Broken as broken:
-        after = Ended(UNDEFINED) if loses_stack(flow, point, broken) else None
+        after = Ended(UNDEFINED) if loses_stack(flow, point, state, broken) else None
     for edge in flow.edges[point]:
         if edge.kind == "Fixup":
             yield edge, where_held(flow, edge.to, state)

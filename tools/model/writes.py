@@ -66,6 +66,9 @@ BEHIND_3A, EVEX_1 = (4, 7), 8
 
 def added(s) -> frozenset[int]:
     """The same of what stands in the whole map alone."""
+    if s.map == 1:
+        # XBEGIN tells in rax why a transaction ended.
+        return frozenset({RAX}) if s.opcode == 0xC7 else frozenset()
     if s.map == 2 and s.opcode in ADDED_SYSTEM:
         return ALL
     if s.map in BEHIND_3A and 0x60 <= s.opcode <= 0x63:
