@@ -15,7 +15,6 @@ pub mod Edges
 pub mod Marks
 pub mod Hints
 pub mod Returning
-pub mod Copies
 pub mod Program
 pub mod Faults
 pub mod WorkedObjects

@@ -31,7 +31,7 @@ use Rattle.flow_defs.specs.Edges.{goes}
 use Rattle.flow_defs.specs.Marks.{marks_of}
 use Rattle.flow_defs.specs.Hints.{hint_of, own_hint_of, save_of}
 use Rattle.flow_defs.specs.Returning.{returns_at_last}
-use Rattle.flow_defs.specs.Copies.{insn_with_copies, is_held}
+use Rattle.machine_defs.specs.Copies.{insn_with_copies, is_held}
 
 -- the plain points at the starts of functions that are neither parts nor unchecked
 abbrev pub is_entry_point : Coded → Point → Bool

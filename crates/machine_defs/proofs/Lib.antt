@@ -1,2 +1,5 @@
 pub mod KeptLemmas
 pub mod EndLemmas
+pub mod Counting
+pub mod Levels
+pub mod CopyLemmas

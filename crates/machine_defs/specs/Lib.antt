@@ -4,6 +4,7 @@ pub mod Kept
 pub mod Ways
 pub mod IsProgram
 pub mod Broken
+pub mod Copies
 pub mod Rows
 pub mod Machine
 pub mod Hint

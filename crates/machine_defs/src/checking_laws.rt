@@ -1,5 +1,6 @@
 //! What holds of the definitions of this crate.
 
+ghost use Rattle.machine_defs.specs.Copies.{StaleIsLeast, WantedIsLeast};
 ghost use Rattle.machine_defs.specs.Kept.{KeptIsOne, KeptStays};
 
 /// A point keeps the state that it was first given.
@@ -10,4 +11,11 @@ pub fn kept_stays()
 /// A point has at most one kept state.
 pub fn kept_is_one()
     ensures { KeptIsOne }
+{}
+
+/// The levels of registers that may hold something else than a copy of rsp come to the least set, and so do those of registers that
+/// are read as rsp further on.
+pub fn levels_are_least()
+    ensures stale { StaleIsLeast }
+    ensures wanted { WantedIsLeast }
 {}

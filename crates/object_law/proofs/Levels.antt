@@ -15,7 +15,7 @@ use Rattle.machine_defs.specs.MayReturn.{MayReturn, is_listed, may_return_outrig
 use Rattle.machine_defs.specs.Ways.{is_next}
 use Rattle.flow_defs.specs.Returning.{call_returns, callee_returns, leads_to_return, returns_at_last, returns_by, returns_within}
 use Rattle.object_law.specs.Returning.{StaysAtPoints}
-use Rattle.object_law.proofs.Counting.{count, Agree, grows, all_pass}
+use Rattle.machine_defs.proofs.Counting.{count, Agree, grows, all_pass}
 
 or_true : (x y : Bool) → (x || y) ≡ true → (x ≡ true) ⊎ (y ≡ true)
 or_true true y e = inl refl

@@ -1,4 +1,3 @@
-pub mod Counting
 pub mod Levels
 pub mod Numbers
 pub mod Edges

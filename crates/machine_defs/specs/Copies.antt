@@ -1,5 +1,5 @@
 -- Copies of rsp in registers, over a program's edges: where a register may hold something else, and where it is read as rsp further on.
-use Rattle.std.specs.Prelude.{ℕ, zero, suc, ◌==◌, ◌&&◌, ◌||◌, not, Bool, true, false, List, [], ◌∷◌, Option, Some, None, if◌then◌else◌}
+use Rattle.std.specs.Prelude.{◌≡◌, ℕ, zero, suc, ◌↔◌, Contains, ◌==◌, ◌&&◌, ◌||◌, not, Bool, true, false, List, [], ◌∷◌, Option, Some, None, if◌then◌else◌}
 use Rattle.std.specs.List.{list_any, list_all}
 use Rattle.operation_defs.specs.declared.insn.Insn.{Insn}
 use Rattle.operation_defs.specs.declared.op.DrapRegister.{DrapRegister}
@@ -8,10 +8,9 @@ use Rattle.operation_defs.specs.declared.op.Op.{Op}
 use Rattle.operation_defs.specs.declared.op.Op.TheVariants.{AndSp, LeaBpSp, LeaReg, LeaSpBp, SpReg, StoreSp, SubSp}
 use Rattle.operation_defs.specs.Made.{Around, made}
 use Rattle.machine_defs.specs.declared.flow.Edge.{Edge}
-use Rattle.machine_defs.specs.Program.{Program, below, is_local, loses}
+use Rattle.machine_defs.specs.Program.{Program, IsPoint, below, is_local, loses}
 use Rattle.machine_defs.specs.Kept.{edges_of, is_at_entry, is_free}
 use Rattle.machine_defs.specs.Ways.{is_fixup}
-use Rattle.flow_defs.specs.Tables.{same_owner}
 
 -- whether an operation sets a register from rsp; 5 is rbp
 abbrev pub sets_from_rsp : Op → ℕ → Bool
@@ -61,6 +60,26 @@ wanted_within p r (suc n) q =
 unfoldable pub is_wanted : Program → ℕ → ℕ → Bool
 is_wanted p q r = wanted_within p r p.count q
 
+-- Levels come to the least sets.
+pub data Stale (p : Program) (r : ℕ) : ℕ → Type 0 where
+  unknown : (q : ℕ) → is_unknown_at p q ≡ true → Stale p r q
+  lost : (a q : ℕ) → IsPoint p a → goes_on_to p a q ≡ true → sets_from_rsp (p.insn a).op r ≡ false → loses (p.insn a) r ≡ true → Stale p r q
+  stays : (a q : ℕ) → IsPoint p a → goes_on_to p a q ≡ true → sets_from_rsp (p.insn a).op r ≡ false → Stale p r a → Stale p r q
+
+pub data Wanted (p : Program) (r : ℕ) : ℕ → Type 0 where
+  read : (q : ℕ) → reads_as_rsp (p.insn q).op r ≡ true → Wanted p r q
+  ahead : (q : ℕ) (e : Edge) → loses (p.insn q) r ≡ false → Contains (edges_of p q) e → is_local e.kind ≡ true → is_free (p.hint e.to) ≡ true → Wanted p r e.to → Wanted p r q
+
+-- the edges of the points of a program lead to points
+abbrev pub LeadsToPoints : Program → Type 0
+LeadsToPoints p = (q : ℕ) (e : Edge) → IsPoint p q → Contains (edges_of p q) e → IsPoint p e.to
+
+abbrev pub StaleIsLeast : Type 0
+StaleIsLeast = (p : Program) (r q : ℕ) → IsPoint p q → (is_stale p q r ≡ true) ↔ Stale p r q
+
+abbrev pub WantedIsLeast : Type 0
+WantedIsLeast = (p : Program) (r q : ℕ) → LeadsToPoints p → IsPoint p q → (is_wanted p q r ≡ true) ↔ Wanted p r q
+
 -- a register is held at a point: it is wanted there, and a copy of rsp on every way
 abbrev pub is_held : Program → ℕ → ℕ → Bool
 is_held p q r = is_wanted p q r && not (is_stale p q r)
@@ -99,10 +118,14 @@ makes_room_by p q SubSp = true
 makes_room_by p q (SpReg reg) = is_stale p q reg && not (is_behind_cell p q)
 makes_room_by p q _ = false
 
+abbrev pub is_owned_by : ℕ → Option ℕ → Bool
+is_owned_by owner None = false
+is_owned_by owner (Some other) = other == owner
+
 -- an owner makes room at one of its points, of any variant; code of no function makes none
 unfoldable pub owner_makes_room : Program → Option ℕ → Bool
 owner_makes_room p None = false
-owner_makes_room p (Some owner) = list_any (λ q. same_owner (p.owner q) (Some owner) && makes_room_by p q (p.insn q).op) (below p.count)
+owner_makes_room p (Some owner) = list_any (λ q. is_owned_by owner (p.owner q) && makes_room_by p q (p.insn q).op) (below p.count)
 
 -- an edge of a point leads to one at which a register is held that its operation sets from rsp
 abbrev pub keeps_by : Program → ℕ → Op → Bool
