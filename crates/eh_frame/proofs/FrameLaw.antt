@@ -1,17 +1,17 @@
 -- An object with the call frame information of rows has the rules of the rows.
-use Rattle.std.proofs.Common.{◌≡◌, ◌≢◌, ℕ, ℤ, pos, zero, suc, ◌+◌, ◌-◌, ◌*◌, ◌%◌, ◌<◌, ◌≤◌, ◌^◌, ◌⊎◌, Bool, true, false, cond, List, [], ◌∷◌, ◌++◌, map, length, replicate, get_or, Option, Some, None, refl, sym, ◌∙◌, ap, subst, inl, inr, arith, append_assoc, append-nil, length-append}
-use Rattle.std.specs.Prelude.{◌==◌, ◌&&◌, ◌||◌, negsuc, ◌≤ℤ◌, unsigned_abs, FitsSigned, filter, flat_map, All, AllPairs, IsSome, slice_get, unwrap_or, codes}
+use Rattle.std.proofs.Common.{◌≡◌, ◌≢◌, ℕ, ℤ, pos, zero, suc, ◌+◌, ◌-◌, ◌<◌, ◌≤◌, ◌^◌, Bool, true, false, cond, List, [], ◌∷◌, ◌++◌, map, length, replicate, get_or, Option, Some, None, refl, sym, ◌∙◌, ap, subst, inl, inr, arith, append_assoc, length-append}
+use Rattle.std.specs.Prelude.{◌==◌, ◌&&◌, ◌||◌, negsuc, ◌≤ℤ◌, unsigned_abs, FitsSigned, filter, flat_map, All, AllPairs, IsSome, slice_get, unwrap_or}
 use Rattle.std.specs.List.{list_any, range_with_len}
-use Rattle.std.proofs.lemmas.Bool.{lt-ltb, le-ltb, ltb-true, ltb-false, le-leb, lt-leb, eqb-true, eqb-false, eq-eqb, ne_eqb, cases_eq, cases_lt, true≢false, false≢true}
-use Rattle.std.proofs.lemmas.Option.{none-some, slice_get-get_or}
-use Rattle.std.proofs.lemmas.List.{get_or_past, length-replicate}
+use Rattle.std.proofs.lemmas.Bool.{lt-ltb, le-ltb, ltb-true, le-leb, lt-leb, eqb-true, eq-eqb, ne_eqb, cases_eq, cases_lt, true≢false, false≢true}
+use Rattle.std.proofs.lemmas.Option.{none-some}
+use Rattle.std.proofs.lemmas.List.{get_or_past}
 use Rattle.std.proofs.lemmas.List.Folds.{list_any_none}
 use Rattle.std.proofs.lemmas.List.Sums.{length-filter, count_by-le-length}
 use Rattle.std.specs.Int.{w16}
-use Rattle.ot_base.specs.declared.codes.TheConstants.{KIND_CALL, REG_BP, REG_PREV_SP, REG_UNDEFINED}
+use Rattle.ot_base.specs.declared.codes.TheConstants.{KIND_CALL, REG_BP, REG_PREV_SP}
 use Rattle.eh_frame.specs.declared.rule.CfaReg.{CfaReg}
 use Rattle.eh_frame.specs.declared.rule.CfaReg.TheVariants.{Rsp, Rbp}
-use Rattle.std.proofs.lemmas.List.Elements.{All-cons, All-nil, All-head, All-tail, All-push, All-weaker, All-filter, All-from_get_or, All-get_or, filter_passes, filter-append}
+use Rattle.std.proofs.lemmas.List.Elements.{All-cons, All-nil, All-head, All-tail, All-push, All-weaker, All-filter, All-get_or, filter_passes, filter-append}
 use Rattle.std.proofs.lemmas.List.Kept.{AllPairs-filter}
 use Rattle.std.proofs.Math.Dec.{ltb, leb}
 use Rattle.ot_base.specs.declared.place.Place.{Place}
@@ -30,12 +30,12 @@ use Rattle.eh_frame.specs.declared.instruction.Instruction.TheVariants.{Nop, Und
 use Rattle.eh_frame.specs.Records.{cie, terminator, entry_bytes, Entry, EntryAt, IsEntry, Entries, NamesSection, HoldsEntries, HoldsRules, relocs_in, relocs_from, rules_of_entry}
 use Rattle.eh_frame.specs.Records as records
 use Rattle.eh_frame.specs.Rules.{moves_all, listed, rule_at}
-use Rattle.eh_frame.specs.RowFrames.{rule_of_row, rule_of_last, rule_by_rows, rows_in, has_row, sections_with, spelled_in, spelled_rows, entries_bytes, frame_section, frame_slots, slots_from, address_slot, rows_bytes, start_bytes, IsFrameRow, IsFrameRowOf, CanHaveFrames}
+use Rattle.eh_frame.specs.RowFrames.{has_frame_rule, rule_of_row, rule_of_last, rule_by_rows, rows_in, has_row, sections_with, spelled_in, spelled_rows, entries_bytes, frame_section, frame_slots, slots_from, address_slot, IsFrameRow, IsFrameRowOf, CanHaveFrames}
 use Rattle.eh_frame.specs.ShortRules.{IsShortSaved}
 use Rattle.eh_frame.proofs.RowRules.{Ascend, Ascend-looser, below_ascends, move_to, rows_below, save, set_rule, set_rows, set_section, set_start, section_followed}
 use Rattle.eh_frame.proofs.EntryLemmas.{entry_length}
-use Rattle.eh_frame.specs.RuleAt.{rule_in, HasRule}
-use Rattle.eh_frame.specs.Laws.{HoldsFrames, NoRuleBehind, RuleIsOfLastRow, RowsAreReadBack, rules_of_rows}
+use Rattle.eh_frame.specs.RuleAt.{rule_in}
+use Rattle.eh_frame.specs.Laws.{HoldsFrames, NoRuleBehind, RuleIsOfLastRow, RowsAreReadBack}
 use Rattle.eh_frame.proofs.Listing.{listed_same}
 use Rattle.eh_frame.proofs.RowSpelling.{AreTold, IsTold, padding, section_spelled, section_aligned, spelled_bound}
 
@@ -276,7 +276,7 @@ short_offset (pos n) h = let s = h.sfits in omega arith
 short_offset (negsuc n) h = let s = h.sfits in omega arith
 
 row_told : (row : Row) → IsFrameRow row → IsTold (rule_of_row row)
-row_told row h = go (row.kind == KIND_CALL) refl
+row_told row h = go (has_frame_rule row) refl
   where
     saved : (b : Bool) → (row.bp_reg == REG_PREV_SP) ≡ b → IsShortSaved (cond b (Some row.bp_offset) None)
     saved true e = short_offset row.bp_offset h.fields.bp_offset
@@ -289,20 +289,20 @@ row_told row h = go (row.kind == KIND_CALL) refl
     same_saved f = cc
 
     lower : (b : Bool) → (row.bp_reg == REG_PREV_SP) ≡ b → row.kind ≡ KIND_CALL → (reg : CfaReg) (off s : ℤ) → Cfa (cond (row.sp_reg == REG_BP) Rbp Rsp) row.sp_offset (cond b (Some row.bp_offset) None) ≡ Cfa reg off (Some s) → s ≤ℤ pos 0
-    lower true e call reg off s f = subst (λ (z : ℤ). z ≤ℤ pos 0) (same_saved f) (at_top (h.bp_reg call))
-      where
-        at_top : (row.bp_reg ≡ REG_UNDEFINED) ⊎ ((row.bp_reg ≡ REG_PREV_SP) × (row.bp_offset ≤ℤ pos 0)) → row.bp_offset ≤ℤ pos 0
-        at_top (inl none) = let is = eqb-true row.bp_reg REG_PREV_SP e in absurd (omega arith)
-        at_top (inr saved) = saved.1
+    lower true e call reg off s f = subst (λ (z : ℤ). z ≤ℤ pos 0) (same_saved f) (h.saved call (eqb-true row.bp_reg REG_PREV_SP e))
     lower false e call reg off s f = absurd (none_saved f)
 
     no_call : (reg : CfaReg) (off s : ℤ) → Undefined ≡ Cfa reg off (Some s) → s ≤ℤ pos 0
     no_call reg off s f = cc
 
-    go : (b : Bool) → (row.kind == KIND_CALL) ≡ b → IsTold (cond b (Cfa (cond (row.sp_reg == REG_BP) Rbp Rsp) row.sp_offset (cond (row.bp_reg == REG_PREV_SP) (Some row.bp_offset) None)) Undefined)
+    left : (a b : Bool) → (a && b) ≡ true → a ≡ true
+    left true b e = refl
+    left false b e = e
+
+    go : (b : Bool) → has_frame_rule row ≡ b → IsTold (cond b (Cfa (cond (row.sp_reg == REG_BP) Rbp Rsp) row.sp_offset (cond (row.bp_reg == REG_PREV_SP) (Some row.bp_offset) None)) Undefined)
     go true e = record {
       short = (short_offset row.sp_offset h.fields.sp_offset, saved (row.bp_reg == REG_PREV_SP) refl);
-      below = lower (row.bp_reg == REG_PREV_SP) refl (eqb-true row.kind KIND_CALL e);
+      below = lower (row.bp_reg == REG_PREV_SP) refl (eqb-true row.kind KIND_CALL (left (row.kind == KIND_CALL) _ e));
     }
     go false e = record { short = tt; below = no_call }
 

@@ -1,5 +1,5 @@
 -- The call frame information of rows.
-use Rattle.std.specs.Prelude.{◌≡◌, ◌⊎◌, ℕ, ◌+◌, ◌-◌, ◌*◌, ◌%◌, ◌==◌, ◌≤◌, ◌<◌, ◌^◌, nat_lt, Bool, true, false, if◌then◌else◌, ℤ, pos, negsuc, ◌≤ℤ◌, unsigned_abs, List, [], ◌∷◌, ◌++◌, length, replicate, filter, flat_map, Option, Some, None, unwrap_or, IsSome, All, AllPairs, slice_get}
+use Rattle.std.specs.Prelude.{◌≡◌, ℕ, ◌+◌, ◌-◌, ◌%◌, ◌==◌, ◌≤◌, ◌<◌, ◌^◌, nat_lt, Bool, true, ◌&&◌, ◌||◌, if◌then◌else◌, ℤ, pos, negsuc, ◌≤ℤ◌, unsigned_abs, List, [], ◌∷◌, ◌++◌, length, replicate, filter, flat_map, Option, Some, None, unwrap_or, IsSome, All, AllPairs, slice_get}
 use Rattle.std.specs.List.{list_any, range_with_len}
 use Rattle.byteorder.specs.Endian.{little_bytes}
 use Rattle.ot_base.specs.declared.codes.TheConstants.{KIND_CALL, REG_BP, REG_SP, REG_PREV_SP, REG_UNDEFINED}
@@ -20,10 +20,15 @@ use Rattle.eh_frame.specs.Groups.{in_groups}
 use Rattle.eh_frame.specs.Spelling.{number_of}
 use Rattle.eh_frame.specs.Records.{cie, entry_bytes, terminator}
 
--- The rule that a row says: that of a call's frame has its register, its offset and where rbp is saved; any other says none.
+-- A row that a frame rule of the profile can say: that of a call's frame whose top is counted from rbp or rsp, and whose caller's rbp
+-- is saved at an offset from the top or nowhere.
+abbrev pub has_frame_rule : Row → Bool
+has_frame_rule row = row.kind == KIND_CALL && ((row.sp_reg == REG_BP || row.sp_reg == REG_SP) && (row.bp_reg == REG_UNDEFINED || row.bp_reg == REG_PREV_SP))
+
+-- The rule that a row says: such a one has its register, its offset and where rbp is saved; any other says none.
 abbrev pub rule_of_row : Row → CfaRule
 rule_of_row row =
-    if row.kind == KIND_CALL
+    if has_frame_rule row
     then Cfa (if row.sp_reg == REG_BP then Rbp else Rsp) row.sp_offset (if row.bp_reg == REG_PREV_SP then Some row.bp_offset else None)
     else Undefined
 
@@ -127,11 +132,10 @@ frame_rela object rows = flat_map bytes_of_reloc (frame_slots object rows)
 
 -- Which rows have call frame information.
 
--- a row of a call's frame counts from rsp or rbp, and rbp is saved at the frame's top or below it, or it isn't saved
+-- where a row of a call's frame saves rbp at an offset from the frame's top, it saves it there or below
 pub record IsFrameRow (row : Row) : Type 0 where
   pub fields : IsRow row
-  pub sp_reg : row.kind ≡ KIND_CALL → (row.sp_reg ≡ REG_BP) ⊎ (row.sp_reg ≡ REG_SP)
-  pub bp_reg : row.kind ≡ KIND_CALL → (row.bp_reg ≡ REG_UNDEFINED) ⊎ ((row.bp_reg ≡ REG_PREV_SP) × (row.bp_offset ≤ℤ pos 0))
+  pub saved : row.kind ≡ KIND_CALL → row.bp_reg ≡ REG_PREV_SP → row.bp_offset ≤ℤ pos 0
 
 -- The row lies in a text section that a symbol stands for, at an offset up to the section's size, which has 32 bits.
 pub record IsFrameRowOf (object : Elf) (placed : PlacedRow) : Type 0 where

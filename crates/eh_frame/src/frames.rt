@@ -22,8 +22,8 @@ use std::alloc::Global;
 /// What is read of the file has at each place of a text section the frame rule of the last row at or below it.
 ///
 /// `CanBeFramed`: each row lies in a text section in which some symbol is defined, at an offset up to the section's size; the rows
-/// strictly ascend by their places; a row of a call's frame counts from rsp or rbp, with rbp saved nowhere or at the frame's top or
-/// below it. The object has at most 64 MiB and 262,142 sections, and none of the frame sections yet; and there are at most
+/// strictly ascend by their places; and where a row of a call's frame saves rbp at an offset from the frame's top, it saves it there
+/// or below. The object has at most 64 MiB and 262,142 sections, and none of the frame sections yet; and there are at most
 /// 67,108,865 rows.
 ///
 /// # Errors

@@ -31,5 +31,5 @@ pub use output::with_frame_sections;
 pub use reading::decode;
 pub use rule::{CfaReg, CfaRule, PlacedRule};
 pub use rule_text::RuleLine;
-pub use worked::worked_entries;
+pub use worked::{worked_entries, worked_rules};
 pub use writing::{EhSections, encode};

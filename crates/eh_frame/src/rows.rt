@@ -2,20 +2,30 @@
 
 ghost use Rattle.std.specs.Prelude.{◌≡◌, ◌≤◌, ◌<◌, ◌+◌, ◌*◌, ◌++◌, ◌^◌, OnOk};
 ghost use Rattle.eh_frame.specs.Groups.{in_groups};
-ghost use Rattle.eh_frame.specs.RowFrames.{cfa_bytes, move_bytes, rule_bytes, rule_of_row, saved_bytes};
+ghost use Rattle.eh_frame.specs.RowFrames.{cfa_bytes, has_frame_rule, move_bytes, rule_bytes, rule_of_row, saved_bytes};
 ghost use Rattle.eh_frame.specs.Spelling.{number_of as register_number};
 ghost use Rattle.eh_frame.specs.ShortRules.{IsShort, IsShortOffset, IsShortSaved};
 
 use crate::rule::{CfaReg, CfaRule};
 use byteorder::{ByteOrder, LittleEndian};
-use ot_base::codes::{KIND_CALL, REG_BP, REG_PREV_SP};
+use ot_base::codes::{KIND_CALL, REG_BP, REG_PREV_SP, REG_SP, REG_UNDEFINED};
 use ot_base::{NoMemory, Row};
+
+/// Whether a frame rule can say a row: that of a call's frame whose top is counted from rbp or rsp, and whose caller's rbp is saved
+/// at an offset from the top or nowhere.
+fn has_frame_rule(row: &Row) -> bool
+    ensures { result ≡ has_frame_rule row.now }
+{
+    row.kind == KIND_CALL
+        && (row.sp_reg == REG_BP || row.sp_reg == REG_SP)
+        && (row.bp_reg == REG_UNDEFINED || row.bp_reg == REG_PREV_SP)
+}
 
 /// The rule that a row says.
 pub(crate) fn rule_of_row(row: &Row) -> CfaRule
     ensures { result ≡ rule_of_row row.now }
 {
-    if row.kind != KIND_CALL {
+    if !has_frame_rule(row) {
         return CfaRule::Undefined;
     }
     let reg = if row.sp_reg == REG_BP {

@@ -28,8 +28,8 @@ pub struct EhSections {
 /// has rows the rule is that of the last row at or below it, and no rule in any other section.
 ///
 /// Each row lies in a text section that has a section symbol, at an offset up to the section's size; the rows strictly ascend by
-/// their places; and a row of a call's frame counts from rsp or rbp, with rbp saved nowhere or at the frame's top or below it.
-/// There are at most 67,108,865 rows.
+/// their places; and where a row of a call's frame saves rbp at an offset from the frame's top, it saves it there or below. There are
+/// at most 67,108,865 rows.
 pub fn encode(
     alloc: Global,
     object: &Object<'_>,
