@@ -1,6 +1,7 @@
 //! What a hint does to the state of the stack.
 
-ghost use Rattle.std.specs.Prelude.{◌≡◌};
+ghost use Rattle.std.specs.Prelude.{◌≡◌, not};
+ghost use Rattle.state_defs.specs.declared.state.State.TheVariants.{Regs};
 ghost use Rattle.special_sections.specs.HintStates.{frame_state as frame_state_of, hint_state};
 
 use crate::HintEntry;
@@ -15,6 +16,18 @@ fn frame_state(above: i64) -> State
         depth: Depth::Known(above),
         fp: None,
         bp: BpHome::Same,
+        copy: None,
+    }
+}
+
+/// The state over saved registers that a hint tells: without the signal they are those of a breakpoint.
+fn regs_state(full: bool, hint: &HintEntry) -> State
+    ensures { result ≡ Regs full hint.now.sp_offset (not hint.now.signal) }
+{
+    State::Regs {
+        full,
+        depth: i64::from(hint.sp_offset),
+        trap: !hint.signal,
     }
 }
 
@@ -27,8 +40,8 @@ pub fn state_of_hint(hint: &HintEntry) -> Option<HintState>
         UNDEFINED => Some(HintState::Set(State::Ended(EndKind::Undefined))),
         END_OF_STACK => Some(HintState::Set(State::Ended(EndKind::EndOfStack))),
         CALL => Some(HintState::Set(frame_state(depth))),
-        REGS => Some(HintState::Set(State::Regs { full: true, depth })),
-        REGS_PARTIAL => Some(HintState::Set(State::Regs { full: false, depth })),
+        REGS => Some(HintState::Set(regs_state(true, hint))),
+        REGS_PARTIAL => Some(HintState::Set(regs_state(false, hint))),
         FUNC => Some(HintState::Set(frame_state(8))),
         SAVE => Some(HintState::Save),
         RESTORE => Some(HintState::Restore),

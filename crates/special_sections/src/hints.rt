@@ -59,7 +59,7 @@ fn is_low(hint: &HintEntry) -> bool
 fn is_wrong_signal(kind: u8, signal: u8) -> bool
     ensures { result ≡ has_bad_signal kind signal }
 {
-    (kind == CALL || kind == FUNC) && signal != 0 || is_regs(kind) && signal != 1
+    (kind == CALL || kind == FUNC) && signal != 0 || is_regs(kind) && signal > 1
 }
 
 /// Why the base, the offset or the signal of a hint isn't one of its type.
