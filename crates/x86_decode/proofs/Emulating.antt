@@ -5,8 +5,6 @@ use Rattle.std.specs.Str.{bytes_eq}
 use Rattle.std.proofs.lemmas.Slice.Eq.{bytes_eq-Decides}
 use Rattle.std.proofs.lemmas.List.{drop-take, length-append, length-take, take_at, take-take, take-append-drop}
 use Rattle.operation_defs.specs.declared.insn.Insn.{Insn}
-use Rattle.operation_defs.specs.declared.op.Op.{Op}
-use Rattle.operation_defs.specs.declared.op.Op.TheVariants.{Plain}
 use Rattle.x86_map.specs.declared.map.Map.{Map}
 use Rattle.x86_map.specs.declared.map.Map.TheVariants.{Base, Whole}
 use Rattle.x86_map.specs.declared.shape.Shape.{Shape}
@@ -14,6 +12,7 @@ use Rattle.x86_map.specs.declared.shape.Write.TheVariants.{Nothing}
 use Rattle.x86_map.specs.Form.{look_form}
 use Rattle.x86_map.specs.OpcodeMap.{base_forms, added_forms, look}
 use Rattle.x86_decode.specs.Action.{action_of}
+use Rattle.x86_decode.specs.Fields.{named_written, registers_written}
 use Rattle.x86_decode.specs.Operation.{operation, operation_by}
 use Rattle.x86_decode.specs.Spelling.{two_byte, Spells, SpelledInFront}
 use Rattle.x86_decode.specs.Reading.{Read, no_prefixes, reading}
@@ -70,9 +69,9 @@ spelled_there map bytes others insn s same = (s.0, subst (λ (t : List ℕ). Spe
 -- ---- a ud2 is spelled where an emulated instruction stands
 
 ud2_spells : Spells Whole (0x0F ∷ 0x0B ∷ []) ud2
-unfolding look base_forms added_forms look_form operation operation_by action_of
+unfolding look base_forms added_forms look_form operation operation_by action_of registers_written named_written
 ud2_spells =
-    let shape : Shape = record { modrm = false; imm = 0; written = record { byte = false; write = Nothing } } in
+    let shape : Shape = record { modrm = false; imm = 0; written = record { byte = false; write = Nothing; implied = 0 } } in
     record {
       parts = record { legacy = []; rex = None; opcode = two_byte 0x0B; operands = record { modrm = None; sib = None; displacement = []; immediate = [] } };
       shape = shape;
@@ -83,6 +82,7 @@ ud2_spells =
       operands = record { in_map = refl; sib = refl; displacement = refl; immediate = refl };
       len = refl;
       op = refl;
+      writes = refl;
     }
 
 pub ud2_in_front : (map : Map) (bytes : List ℕ) (insn : Insn) → IsEmulated map bytes insn → SpelledInFront map bytes ud2
@@ -121,20 +121,15 @@ emulated_there map bytes others insn e same =
 
 -- ---- reading finds it
 
-plain_is : (op : Op) → is_plain op ≡ true → op ≡ Plain
-plain_is Plain h = refl
-plain_is op h = absurd cc
-
 pub emulated_is : (map : Map) (bytes : List ℕ) (insn : Insn) → IsEmulated map bytes insn → emulated_in map bytes ≡ Some insn
 emulated_is Base bytes insn e = absurd (let no = e.whole in cc)
 emulated_is Whole bytes insn e =
     let begins : begins_emulated bytes ≡ true = elim e.prefix [ inl xen ↦ rw xen refl | inr kvm ↦ rw kvm refl ] in
     let len : insn.len ≡ 5 + e.behind.len = ap (λ (i : Insn). i.len) e.is in
     let read : reading Whole (take 10 (drop 5 bytes)) ≡ ok_of e.behind = reads_within Whole (drop 5 bytes) e.behind 10 (omega (arith, len, e.few)) e.spelled.1 in
-    let plain : is_plain e.behind.op ≡ true = ap is_plain e.plain in
     ap (λ (b : Bool). cond b (emulated_by (reading Whole (take 10 (drop 5 bytes)))) None) begins
     ∙ ap emulated_by read
-    ∙ ap (λ (b : Bool). cond b (Some (with_prefix e.behind)) None) plain
+    ∙ ap (λ (b : Bool). cond b (Some (with_prefix e.behind)) None) e.plain
     ∙ ap (λ (i : Insn). Some i) (sym e.is)
 
 begins_is : (bytes : List ℕ) → begins_emulated bytes ≡ true → (take 5 bytes ≡ xen_prefix) ⊎ (take 5 bytes ≡ kvm_prefix)
@@ -156,7 +151,7 @@ emulated_from bytes insn are begins (Ok behind) read h =
             prefix = begins_is bytes begins;
             behind = behind;
             spelled = (omega (arith, s.0), s.1);
-            plain = plain_is behind.op plain;
+            plain = plain;
             is = sym same;
             few = let len : 5 + behind.len ≡ insn.len = ap (λ (i : Insn). i.len) same in omega (arith, len, s.0);
           }

@@ -18,6 +18,7 @@ use Rattle.x86_map.proofs.Modrm.{leads-fits, look-asks, look-some, look-never_as
 use Rattle.std.proofs.lemmas.Bool.{leb-true, ltb-true, eqb-true}
 use Rattle.x86_decode.specs.Prefix.{is_legacy, has, prefixes_of}
 use Rattle.x86_decode.specs.Spelling.{Opcode, one_byte, two_byte, three_byte, three_byte_3A, behind_vector, Operands, Parts, optional, opcode_bytes, operand_bytes, bytes_of, map_of, byte_of, vector_of, has_sib, displacement_len, prefixes_in, fields_in}
+use Rattle.x86_decode.specs.Fields.{registers_written}
 use Rattle.x86_decode.specs.Operation.{operation}
 use Rattle.x86_decode.specs.MapLaw.{SpelledWith, VectorIsBytes, MapIsExact}
 use Rattle.x86_decode.proofs.Languages.{IsBytes}
@@ -217,6 +218,7 @@ spelled_with p number opcode modrm shape low lt vector byte fits =
     let insn : Insn = record {
       len = length (bytes_of parts);
       op = operation (fields_in p.map parts shape);
+      writes = registers_written (fields_in p.map parts shape);
     } in
     record {
       bytes = bytes_of parts;
@@ -231,6 +233,7 @@ spelled_with p number opcode modrm shape low lt vector byte fits =
         operands = record { in_map = in_map; sib = sib_if-some (has_sib modrm); displacement = length-replicate d 0; immediate = length-replicate shape.imm 0 };
         len = refl;
         op = refl;
+        writes = refl;
       };
       prefixes = prefixes;
       in_map = is.in_map;

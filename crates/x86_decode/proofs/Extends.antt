@@ -21,7 +21,7 @@ use Rattle.x86_decode.specs.declared.fields.Fields.{Fields}
 use Rattle.x86_decode.specs.declared.action.Action.{Action}
 use Rattle.x86_decode.specs.declared.action.Action.TheVariants.{Other, Exchange, NoOperation, Hint, PushRegister, Push, PopRegister, PopOperand, Pop, PopFlags, Arithmetic, SubtractFrom, Subtract, Store, Load, LoadAddress, Enter, Leave, Call, ShortJump, Jump, ShortCondition, Condition, Return, ReturnImmediate, InterruptReturn, Far, Undefined, Breakpoint, Group5, Group7, Group11}
 use Rattle.x86_decode.specs.Action.{action_of}
-use Rattle.x86_decode.specs.Fields.{writes_number}
+use Rattle.x86_decode.specs.Fields.{written_by, named_written, registers_written}
 use Rattle.x86_decode.specs.Operation.{written, push_operand, pop_operand, arithmetic, subtracted_from, subtracted_by, stored, loaded, address_loaded, jump_table, group_5, group_7, group_11, operation_by, operation}
 use Rattle.x86_decode.specs.Spelling.{map_of, byte_of, prefixes_in, fields_in}
 use Rattle.x86_decode.specs.Decoding.{emulated, spelled}
@@ -82,17 +82,25 @@ fits_whole p number opcode modrm shape base fits =
 abbrev of_whole : Fields → Fields
 of_whole f = record f { prefixes = whole f.prefixes }
 
-same_number : (write : Write) (f : Fields) (n : ℕ) → writes_number write (of_whole f) n ≡ writes_number write f n
-same_number Nothing f n = refl
-same_number Rm f n = refl
-same_number Reg f n = refl
-same_number Both f n = refl
-same_number Opcode f n = refl
-same_number Vvvv f n = refl
-same_number RegAndVvvv f n = refl
+same_by_write : (write : Write) (f : Fields) → written_by write (of_whole f) ≡ written_by write f
+same_by_write Nothing f = refl
+same_by_write Rm f = refl
+same_by_write Reg f = refl
+same_by_write Both f = refl
+same_by_write Opcode f = refl
+same_by_write Vvvv f = refl
+same_by_write RegAndVvvv f = refl
+
+same_named : (f : Fields) → named_written (of_whole f) ≡ named_written f
+unfolding named_written
+same_named f = same_by_write f.shape.written.write f
+
+same_registers : (f : Fields) → registers_written (of_whole f) ≡ registers_written f
+unfolding registers_written
+same_registers f = rw (same_named f) refl
 
 same_written : (f : Fields) → written (of_whole f) ≡ written f
-same_written f = rw (same_number f.shape.written.write f 4, same_number f.shape.written.write f 5) refl
+same_written f = rw (same_named f, same_registers f) refl
 
 same_by : (action : Action) (f : Fields) → operation_by action (of_whole f) ≡ operation_by action f
 unfolding operation_by push_operand pop_operand arithmetic subtracted_from subtracted_by stored loaded address_loaded jump_table group_5 group_7 group_11
@@ -149,6 +157,7 @@ whole_extends bytes insn s = record {
   };
   len = s.len;
   op = s.op ∙ sym (same_operation (fields_in Base s.parts s.shape));
+  writes = s.writes ∙ sym (same_registers (fields_in Base s.parts s.shape));
 }
 
 -- and it stands there, but where an emulated instruction does

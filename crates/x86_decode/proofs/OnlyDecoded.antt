@@ -2,18 +2,20 @@
 use Rattle.std.proofs.Common.{◌≡◌, ℕ, Bool, true, false, cond, List, Result, Ok, Err, refl, ap, subst, sym, ◌∙◌}
 use Rattle.std.specs.Prelude.{◌&&◌, ◌||◌, ◌==◌, not, IfOk, pos, neg_ℤ}
 use Rattle.x86_map.specs.Prefixes.{rex_w, rex_b, under_F3, under_F2}
+use Rattle.operation_defs.specs.declared.op.DrapRegister.{DrapRegister}
+use Rattle.operation_defs.specs.declared.op.DrapRegister.TheVariants.{R10, R13}
 use Rattle.operation_defs.specs.declared.op.Op.{Op}
 use Rattle.operation_defs.specs.declared.op.Op.TheVariants as ops
 use Rattle.operation_defs.specs.declared.insn.Insn.{Insn}
-use Rattle.operation_defs.specs.Made.{is_decoded}
+use Rattle.operation_defs.specs.Made.{has_register, is_decoded}
 use Rattle.x86_map.specs.declared.map.Map.{Map}
 use Rattle.x86_decode.specs.declared.DecodeFault.{DecodeFault}
 use Rattle.x86_decode.specs.declared.fields.Fields.{Fields}
 use Rattle.x86_decode.specs.declared.action.Action.{Action}
 use Rattle.x86_decode.specs.declared.action.Action.TheVariants.{Other, Exchange, NoOperation, Hint, PushRegister, Push, PopRegister, PopOperand, Pop, PopFlags, Arithmetic, SubtractFrom, Subtract, Store, Load, LoadAddress, Enter, Leave, Call, ShortJump, Jump, ShortCondition, Condition, Return, ReturnImmediate, InterruptReturn, Far, Undefined, Breakpoint, Group5, Group7, Group11}
 use Rattle.x86_decode.specs.Action.{action_of}
-use Rattle.x86_decode.specs.Fields.{modrm, is_register, digit, is_at_rsp, is_at_rbp, writes, rm_register, opcode_register, reg_register}
-use Rattle.x86_decode.specs.Operation.{written, pushed, popped, push_operand, pop_operand, arithmetic, subtracted, subtracted_from, subtracted_by, copied, stored, loaded, address_loaded, jump_table, group_5, group_7, group_11, operation_by, operation}
+use Rattle.x86_decode.specs.Fields.{modrm, is_register, digit, is_at_rsp, is_at_rbp, is_at_register, is_near_register, named_written, registers_written, rm_register, opcode_register, reg_register}
+use Rattle.x86_decode.specs.Operation.{written_besides, written, of_drap, pushed, popped, push_operand, pop_operand, arithmetic, subtracted, subtracted_from, subtracted_by, copied, stored, loaded, address_loaded, jump_table, group_5, group_7, group_11, operation_by, operation}
 use Rattle.x86_decode.specs.Spelling.{fields_in}
 use Rattle.x86_decode.specs.Decoding.{emulated, spelled, Outcome}
 
@@ -25,14 +27,22 @@ given : (b : Bool) (x y : Op) → Given x → Given y → Given (cond b x y)
 given true x y ax ay = ax
 given false x y ax ay = ay
 
+given-besides : (registers : ℕ) → Given (written_besides registers)
+given-besides registers = given (has_register registers 10 || has_register registers 13) (ops.RegOther (has_register registers 10) (has_register registers 13)) ops.Plain refl refl
+
 given-written : (f : Fields) → Given (written f)
-given-written f = given (writes f 4) (ops.SpOther) (cond (writes f 5) (ops.BpOther) (ops.Plain)) (refl) (given (writes f 5) (ops.BpOther) (ops.Plain) (refl) (refl))
+given-written f =
+    given (has_register (named_written f) 4) ops.SpOther _ refl (given (has_register (named_written f) 5) ops.BpOther (written_besides (registers_written f)) refl (given-besides (registers_written f)))
+
+given-drap : (op : DrapRegister → Op) (register : ℕ) (other : Op) → Given (op R10) → Given (op R13) → Given other → Given (of_drap op register other)
+given-drap op register other r10 r13 h = given (register == 10) (op R10) (cond (register == 13) (op R13) other) r10 (given (register == 13) (op R13) other r13 h)
 
 given-pushed : (register : ℕ) → Given (pushed register)
-given-pushed register = given (register == 5) ops.PushBp ops.Push refl refl
+given-pushed register = given (register == 5) ops.PushBp _ refl (given-drap (λ reg. ops.PushReg reg) register ops.Push refl refl refl)
 
 given-popped : (register : ℕ) → Given (popped register)
-given-popped register = given (register == 5) (ops.PopBp) (cond (register == 4) (ops.SpOther) (ops.Pop)) (refl) (given (register == 4) (ops.SpOther) (ops.Pop) (refl) (refl))
+given-popped register =
+    given (register == 5) ops.PopBp _ refl (given (register == 4) ops.PopSp _ refl (given-drap (λ reg. ops.PopReg reg) register ops.Pop refl refl refl))
 
 given-push_operand : (f : Fields) → Given (push_operand f)
 unfolding push_operand
@@ -50,7 +60,8 @@ given-copied : (to from : ℕ) (f : Fields) → Given (copied to from f)
 given-copied to from f =
     given ((to == 4) && (from == 5)) (ops.LeaSpBp (pos 0)) _ refl
     (given ((to == 5) && (from == 4)) (ops.LeaBpSp (pos 0)) _ refl
-    (given ((to == 4) && not (from == 4)) ops.SpReg (written f) refl (given-written f)))
+    (given ((to == 4) && not (from == 4)) (ops.SpReg from) _ refl
+    (given ((from == 4) && not (to == 4)) (ops.LeaReg to (pos 0)) (written f) refl (given-written f))))
 
 given-subtracted : (to from : ℕ) (f : Fields) → Given (subtracted to from f)
 given-subtracted to from f = given ((to == 4) && not (from == 4)) ops.SubSp (written f) refl (given-written f)
@@ -65,15 +76,31 @@ given-subtracted_by f = given (rex_w f.prefixes && is_register f) (subtracted (r
 
 given-stored : (f : Fields) → Given (stored f)
 unfolding stored
-given-stored f = given (not (rex_w f.prefixes)) (written f) (cond (is_register f) (copied (rm_register f) (reg_register f) f) (cond (is_at_rsp f && (reg_register f == 5)) (ops.StoreBp f.displacement) (written f))) (given-written f) (given (is_register f) (copied (rm_register f) (reg_register f) f) (cond (is_at_rsp f && (reg_register f == 5)) (ops.StoreBp f.displacement) (written f)) (given-copied (rm_register f) (reg_register f) f) (given (is_at_rsp f && (reg_register f == 5)) (ops.StoreBp f.displacement) (written f) (refl) (given-written f)))
+given-stored f =
+    given (not (rex_w f.prefixes)) (written f) _ (given-written f)
+    (given (is_register f) (copied (rm_register f) (reg_register f) f) _ (given-copied (rm_register f) (reg_register f) f)
+    (given (is_at_rsp f && (reg_register f == 5)) (ops.StoreBp f.displacement) _ refl
+    (given (is_at_register f && (reg_register f == 4)) (ops.StoreSp (rm_register f)) (written f) refl (given-written f))))
 
 given-loaded : (f : Fields) → Given (loaded f)
 unfolding loaded
-given-loaded f = given (not (rex_w f.prefixes)) (written f) (cond (is_register f) (copied (reg_register f) (rm_register f) f) (cond (is_at_rsp f && (reg_register f == 5)) (ops.LoadBp f.displacement) (written f))) (given-written f) (given (is_register f) (copied (reg_register f) (rm_register f) f) (cond (is_at_rsp f && (reg_register f == 5)) (ops.LoadBp f.displacement) (written f)) (given-copied (reg_register f) (rm_register f) f) (given (is_at_rsp f && (reg_register f == 5)) (ops.LoadBp f.displacement) (written f) (refl) (given-written f)))
+given-loaded f =
+    let frame : Op = of_drap (λ reg. ops.LoadReg reg f.displacement) (reg_register f) (written f) in
+    given (not (rex_w f.prefixes)) (written f) _ (given-written f)
+    (given (is_register f) (copied (reg_register f) (rm_register f) f) _ (given-copied (reg_register f) (rm_register f) f)
+    (given (is_at_rsp f && (reg_register f == 5)) (ops.LoadBp f.displacement) _ refl
+    (given (is_at_rbp f) frame (written f) (given-drap (λ reg. ops.LoadReg reg f.displacement) (reg_register f) (written f) refl refl (given-written f)) (given-written f))))
 
 given-address_loaded : (f : Fields) → Given (address_loaded f)
 unfolding address_loaded
-given-address_loaded f = given (not (rex_w f.prefixes)) (written f) (cond ((reg_register f == 4) && is_at_rsp f) (ops.AddSp f.displacement) (cond ((reg_register f == 4) && is_at_rbp f) (ops.LeaSpBp f.displacement) (cond ((reg_register f == 5) && is_at_rsp f) (ops.LeaBpSp f.displacement) (written f)))) (given-written f) (given ((reg_register f == 4) && is_at_rsp f) (ops.AddSp f.displacement) (cond ((reg_register f == 4) && is_at_rbp f) (ops.LeaSpBp f.displacement) (cond ((reg_register f == 5) && is_at_rsp f) (ops.LeaBpSp f.displacement) (written f))) (refl) (given ((reg_register f == 4) && is_at_rbp f) (ops.LeaSpBp f.displacement) (cond ((reg_register f == 5) && is_at_rsp f) (ops.LeaBpSp f.displacement) (written f)) (refl) (given ((reg_register f == 5) && is_at_rsp f) (ops.LeaBpSp f.displacement) (written f) (refl) (given-written f))))
+given-address_loaded f =
+    let drap : Op = of_drap (λ reg. ops.LeaSpReg reg f.displacement) (rm_register f) (written f) in
+    given (not (rex_w f.prefixes)) (written f) _ (given-written f)
+    (given ((reg_register f == 4) && is_at_rsp f) (ops.AddSp f.displacement) _ refl
+    (given ((reg_register f == 4) && is_at_rbp f) (ops.LeaSpBp f.displacement) _ refl
+    (given ((reg_register f == 4) && is_near_register f) drap _ (given-drap (λ reg. ops.LeaSpReg reg f.displacement) (rm_register f) (written f) refl refl (given-written f))
+    (given ((reg_register f == 5) && is_at_rsp f) (ops.LeaBpSp f.displacement) _ refl
+    (given (not (reg_register f == 4) && is_at_rsp f) (ops.LeaReg (reg_register f) f.displacement) (written f) refl (given-written f))))))
 
 given-group_5 : (f : Fields) → Given (group_5 f)
 unfolding group_5
@@ -134,5 +161,7 @@ given-operation f = given-by (action_of f.number f.opcode) f
 -- what stands in front of bytes is such a one
 pub only_decoded : (map : Map) (bytes : List ℕ) (r : Result Insn DecodeFault) → Outcome map bytes r → IfOk r (λ insn. is_decoded insn.op ≡ true)
 only_decoded map bytes (Ok insn) (spelled s alone) = subst Given (sym s.1.op) (given-operation (fields_in map s.1.parts s.1.shape))
-only_decoded map bytes (Ok insn) (emulated e) = subst Given (sym (ap (λ (i : Insn). i.op) e.is ∙ e.plain)) refl
+only_decoded map bytes (Ok insn) (emulated e) =
+    let s = e.spelled.1 in
+    subst Given (sym (ap (λ (i : Insn). i.op) e.is ∙ s.op)) (given-operation (fields_in map s.parts s.shape))
 only_decoded map bytes (Err fault) s = tt

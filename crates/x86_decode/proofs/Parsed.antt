@@ -323,4 +323,5 @@ from_language map bytes insn are_bytes h =
       operands = subst (λ (x : Prefixes). Follow (led x parts.opcode) (map_of parts.opcode) (byte_of parts.opcode) parts.operands f.shape) same f.follow;
       len = ap (λ (x : Insn). x.len) spelled ∙ len ∙ sym (ap (length {A = ℕ}) f.in_order);
       op = ap (λ (x : Insn). x.op) spelled;
+      writes = ap (λ (x : Insn). x.writes) spelled;
     }

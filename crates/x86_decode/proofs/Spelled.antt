@@ -19,6 +19,7 @@ use Rattle.x86_map.proofs.Accepting.{stands_is}
 use Rattle.x86_map.proofs.Modrm.{leads-fits, look-asks}
 use Rattle.x86_decode.specs.Prefix.{is_legacy, has, prefixes_of}
 use Rattle.x86_decode.specs.Spelling.{Opcode, one_byte, two_byte, three_byte, three_byte_3A, behind_vector, Operands, optional, opcode_bytes, operand_bytes, map_of, byte_of, vector_of, has_sib, displacement_len, Follow, fields_of, Spells}
+use Rattle.x86_decode.specs.Fields.{registers_written}
 use Rattle.x86_decode.specs.Operation.{operation}
 use Rattle.x86_decode.specs.Reading.{finished, with_vector, is_vector_escape, is_whole, opens_vector, with_rex, noted, no_prefixes}
 use Rattle.x86_decode.proofs.Escapes.{fits-no_prefix, fits-number, escape-refused, escape_3A-refused, rex-no_legacy}
@@ -32,6 +33,7 @@ abbrev pub insn_with : Prefixes → ℕ → ℕ → ℕ → Operands → Shape �
 insn_with p number opcode before operands shape = record {
   len = before + length (operand_bytes operands);
   op = operation (fields_of p number opcode before operands shape);
+  writes = registers_written (fields_of p number opcode before operands shape);
 }
 
 pub finished-is : (p : Prefixes) (number opcode : ℕ) (operands : Operands) (shape : Shape) (before : ℕ)
@@ -394,8 +396,8 @@ tail_in p seen None opcode operands shape free free_vector valid are_bytes follo
 tail_in p seen (Some rex) opcode operands shape free free_vector valid are_bytes follow =
     behind_rex p rex opcode seen operands shape free_vector are_bytes.0 valid (opcode_is_byte opcode (operand_bytes operands) are_bytes.1) follow
 
-pub insn-is : (a b : Insn) → a.len ≡ b.len → a.op ≡ b.op → a ≡ b
-insn-is a b len op = rw (len, op) refl
+pub insn-is : (a b : Insn) → a.len ≡ b.len → a.op ≡ b.op → a.writes ≡ b.writes → a ≡ b
+insn-is a b len op writes = rw (len, op, writes) refl
 
 -- every spelling is in the language
 pub to_language : (map : Map) (bytes : List ℕ) (insn : Insn) → Spells map bytes insn → FromPrefixes (no_prefixes map) 0 bytes insn
@@ -413,4 +415,4 @@ to_language map bytes insn s =
     subst (λ (n : ℕ). FromPrefixes (noted_all legacy none) n rest made) (let zero-add : length legacy ≡ 0 + length legacy = omega arith in zero-add)
     (subst (λ (p : Prefixes). FromPrefixes p (length legacy) rest made) (sym (noted_all-none map legacy)) tail) in
     let whole : FromPrefixes none 0 (legacy ++ rest) made = behind_legacy legacy none 0 rest made s.legacy noted in
-    subst (λ (x : Insn). FromPrefixes none 0 bytes x) (sym (insn-is insn made len s.op)) (subst (λ (t : List ℕ). FromPrefixes none 0 t made) (sym s.in_order) whole)
+    subst (λ (x : Insn). FromPrefixes none 0 bytes x) (sym (insn-is insn made len s.op s.writes)) (subst (λ (t : List ℕ). FromPrefixes none 0 t made) (sym s.in_order) whole)

@@ -19,6 +19,7 @@ use Rattle.x86_map.specs.declared.form.Operand.{Operand}
 use Rattle.x86_map.specs.declared.form.Operand.TheVariants.{Digits, Bytes}
 use Rattle.x86_map.specs.Prefixes.{is_rex_valid}
 use Rattle.x86_map.specs.Form.{takes, look_form}
+use Rattle.x86_map.specs.Row.{rAX}
 use Rattle.x86_map.specs.OpcodeMap.{base_forms, added_forms, forms_at, or_else, look_forms, look}
 use Rattle.x86_decode.specs.UsualForms.{usual_prefixes, branch_len, modrm_written, modrm_shape, group_1_shape, shape_of, one_byte_shape, known_shape}
 
@@ -31,7 +32,7 @@ looked m rex number opcode modrm l low high valid says = rw (lt-ltb number 5 (om
 -- ---- near branches
 
 abbrev pub branch_shape : ℕ → Shape
-branch_shape len = record { modrm = false; imm = len; written = record { byte = false; write = Nothing } }
+branch_shape len = record { modrm = false; imm = len; written = record { byte = false; write = Nothing; implied = 0 } }
 
 abbrev if_branch : Option ℕ → Look → Look
 if_branch None l = Refused
@@ -199,7 +200,7 @@ says_C6 Whole rex b = (operand_or (Bytes 0xF8 0xF8) (modrm_shape 1 false Nothing
 says_C7 : SaysFirst 0xC7 (Digits Either 0 0) (modrm_shape 4 false Rm)
 unfolding base_forms added_forms look_form
 says_C7 Base rex b = (Refused, refl)
-says_C7 Whole rex b = (operand_or (Bytes 0xF8 0xF8) (modrm_shape 4 false Nothing) b Refused, refl)
+says_C7 Whole rex b = (operand_or (Bytes 0xF8 0xF8) (record (modrm_shape 4 false Nothing) { written = rAX }) b Refused, refl)
 
 -- the digit tells which of the two forms
 group_fits : (opcode imm : ℕ) (byte : Bool) (m : Map) (rex : Option ℕ) (b : ℕ) (shape : Shape) → Says opcode (in_group_1 imm byte) → is_rex_valid rex ≡ true

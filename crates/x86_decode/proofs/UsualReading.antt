@@ -20,7 +20,7 @@ use Rattle.x86_decode.specs.Spelling.{optional, has_sib}
 use Rattle.x86_decode.specs.Reading.{finished, rest_at, sib_at, modrm_fits, modrm_at, operands_by, operands_at, two_byte_in, two_byte_at, is_whole, is_vector_escape, opcode_at, with_rex, rex_at, prefixes_at, no_prefixes, reading}
 use Rattle.operation_defs.specs.declared.op.Op.{Op}
 use Rattle.x86_decode.specs.declared.fields.Fields.{Fields}
-use Rattle.x86_decode.specs.Fields.{signed}
+use Rattle.x86_decode.specs.Fields.{signed, named_written, registers_written}
 use Rattle.x86_decode.specs.Action.{action_of}
 use Rattle.x86_decode.specs.Operation.{operation_by, operation}
 use Rattle.x86_decode.specs.UsualForms.{usual_prefixes, branch_len}
@@ -84,7 +84,7 @@ usual_operands_by takes has p number opcode end n k modrm sib shape bytes insn l
 -- ---- near branches
 
 abbrev insn_of : ℕ → Op → Insn
-insn_of len op = record { len = len; op = op }
+insn_of len op = record { len = len; op = op; writes = 0 }
 
 insn_is : (a b : ℕ) (x y : Op) → a ≡ b → x ≡ y → insn_of a x ≡ insn_of b y
 insn_is a b x y e f = rw (e, f) refl
@@ -92,7 +92,7 @@ insn_is a b x y e f = rw (e, f) refl
 branch_rest : (p : Prefixes) (number opcode end len : ℕ) (rest : List ℕ) (op : Op) → len ≤ length rest
     → ((f : Fields) → f.immediate ≡ signed (take len rest) → operation_by (action_of number opcode) f ≡ op)
     → rest_at p number opcode None None (branch_shape len) end rest ≡ Ok (insn_of (end + len) op)
-unfolding rest_at finished operation
+unfolding rest_at finished operation registers_written named_written
 branch_rest p number opcode end len rest op room does =
     let long : ltb (length rest) (0 + len) ≡ false = le-ltb _ _ (omega arith) in
     let size : end + 0 + 0 + length (take 0 rest) + length (take len (drop 0 rest)) ≡ end + len = omega (arith, length-take len rest) in

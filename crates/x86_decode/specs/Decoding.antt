@@ -42,7 +42,7 @@ OneSpelling =
     → (a ≡ b) × (m ≡ n)
 
 abbrev pub ud2 : Insn
-ud2 = record { len = 2; op = Ud2 }
+ud2 = record { len = 2; op = Ud2; writes = 0 }
 
 -- an instruction is told by its own bytes, whatever stands behind them, but a ud2 also by those: with them it may begin an emulated one
 abbrev pub OneInFront : Type 0

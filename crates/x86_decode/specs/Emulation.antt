@@ -3,7 +3,7 @@ use Rattle.std.specs.Prelude.{◌≡◌, ℕ, ◌+◌, ◌≤◌, Bool, true, fa
 use Rattle.std.specs.List.{starts_with}
 use Rattle.operation_defs.specs.declared.insn.Insn.{Insn}
 use Rattle.operation_defs.specs.declared.op.Op.{Op}
-use Rattle.operation_defs.specs.declared.op.Op.TheVariants.{Plain}
+use Rattle.operation_defs.specs.declared.op.Op.TheVariants.{Plain, RegOther}
 use Rattle.x86_map.specs.declared.map.Map.{Map}
 use Rattle.x86_map.specs.declared.map.Map.TheVariants.{Base, Whole}
 use Rattle.x86_decode.specs.Spelling.{SpelledInFront}
@@ -19,7 +19,13 @@ kvm_prefix = 0x0F ∷ 0x0B ∷ 0x6B ∷ 0x76 ∷ 0x6D ∷ []
 
 -- the instruction with the five bytes of such a prefix
 abbrev pub with_prefix : Insn → Insn
-with_prefix insn = record { len = 5 + insn.len; op = insn.op }
+with_prefix insn = record insn { len = 5 + insn.len }
+
+-- an instruction that writes neither rsp nor rbp in a way that is told, and goes on
+abbrev pub is_plain : Op → Bool
+is_plain Plain = true
+is_plain (RegOther r10 r13) = true
+is_plain op = false
 
 -- By the whole map one of the prefixes and what is spelled behind it are one instruction, of at most 15 bytes, if that is a plain
 -- one. Behind a prefix another one is none: its ud2 isn't plain.
@@ -30,15 +36,11 @@ pub record IsEmulated (map : Map) (bytes : List ℕ) (insn : Insn) : Type 0 wher
   pub prefix : (take 5 bytes ≡ xen_prefix) ⊎ (take 5 bytes ≡ kvm_prefix)
   pub behind : Insn
   pub spelled : SpelledInFront map (drop 5 bytes) behind
-  pub plain : behind.op ≡ Plain
+  pub plain : is_plain behind.op ≡ true
   pub is : insn ≡ with_prefix behind
   pub few : insn.len ≤ 15
 
 -- ---- by reading
-
-abbrev pub is_plain : Op → Bool
-is_plain Plain = true
-is_plain op = false
 
 abbrev pub begins_emulated : List ℕ → Bool
 begins_emulated bytes = starts_with nat_eq bytes xen_prefix || starts_with nat_eq bytes kvm_prefix

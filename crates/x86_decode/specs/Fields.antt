@@ -1,5 +1,5 @@
 -- The fields of an instruction, as its operation asks for them (SDM, volume 2, sections 2.1 and 2.2.1).
-use Rattle.std.specs.Prelude.{ℕ, ◌+◌, ◌/◌, ◌%◌, Bool, true, false, not, ◌&&◌, ◌||◌, ◌==◌, nat_lt, if◌then◌else◌, Option, Some, None, unwrap_or, List, length, slice_index, ℤ, pos}
+use Rattle.std.specs.Prelude.{ℕ, ◌+◌, ◌^◌, ◌/◌, ◌%◌, bit_or, Bool, true, false, not, ◌&&◌, ◌||◌, ◌==◌, nat_lt, if◌then◌else◌, Option, Some, None, unwrap_or, List, length, slice_index, ℤ, pos}
 use Rattle.std.specs.Int.{w8, w32, cast_signed}
 use Rattle.byteorder.specs.Endian.{little_number}
 use Rattle.x86_map.specs.declared.shape.Write.{Write}
@@ -71,28 +71,57 @@ is_at_rbp f =
     ((modrm_mod (modrm f) == 1) || (modrm_mod (modrm f) == 2)) && (modrm_rm (modrm f) == 5)
     && not (rex_b f.prefixes) && is_plain_address f
 
+-- memory at a register, without a displacement: mod 0 and rm neither 4 nor 5
+abbrev pub is_at_register : Fields → Bool
+is_at_register f =
+    (modrm_mod (modrm f) == 0) && not (modrm_rm (modrm f) == 4) && not (modrm_rm (modrm f) == 5) && is_plain_address f
+
+-- memory at a register plus a displacement: mod 1 or 2 and rm not 4
+abbrev pub is_near_register : Fields → Bool
+is_near_register f =
+    ((modrm_mod (modrm f) == 1) || (modrm_mod (modrm f) == 2)) && not (modrm_rm (modrm f) == 4) && is_plain_address f
+
 -- memory at a 32-bit address plus an index times 8: rm 4 with mod 0, and a SIB byte with base 5, scale 8 and an index
 abbrev pub is_table_entry : Fields → Bool
 is_table_entry f =
     (modrm_mod (modrm f) == 0) && (modrm_rm (modrm f) == 4) && (sib_base (sib f) == 5) && (sib_scale (sib f) == 3)
     && (not (sib_index (sib f) == 4) || rex_x f.prefixes) && is_plain_address f
 
--- ---- written registers
-
--- Whether the instruction writes the register of this number, 4 for rsp or 5 for rbp, beside what it does to the stack.
--- The byte registers 4 and 5 without a REX are AH and CH.
-abbrev pub writes_number : Write → Fields → ℕ → Bool
-writes_number Nothing f n = false
-writes_number Rm f n = is_register f && (rm_register f == n)
-writes_number Reg f n = reg_register f == n
-writes_number Both f n = (reg_register f == n) || (is_register f && (rm_register f == n))
-writes_number Opcode f n = opcode_register f == n
-writes_number Vvvv f n = vvvv_register f.prefixes == n
-writes_number RegAndVvvv f n = (reg_register f == n) || (vvvv_register f.prefixes == n)
+-- ---- written registers, by the bits of a number: bit r tells register r
 
 abbrev pub is_none : Option ℕ → Bool
 is_none None = true
 is_none (Some rex) = false
 
-abbrev pub writes : Fields → ℕ → Bool
-writes f n = not (f.shape.written.byte && is_none f.prefixes.rex) && writes_number f.shape.written.write f n
+-- the number of a register that is written: the byte registers 4 to 7 without a REX are AH, CH, DH and BH, parts of 0 to 3
+abbrev pub written_register : Fields → ℕ → ℕ
+written_register f register = if f.shape.written.byte && is_none f.prefixes.rex then register % 4 else register
+
+abbrev pub reg_written : Fields → ℕ
+reg_written f = 2 ^ written_register f (reg_register f)
+
+abbrev pub rm_written : Fields → ℕ
+rm_written f = if is_register f then 2 ^ written_register f (rm_register f) else 0
+
+abbrev pub opcode_written : Fields → ℕ
+opcode_written f = 2 ^ written_register f (opcode_register f)
+
+abbrev pub vvvv_written : Fields → ℕ
+vvvv_written f = 2 ^ vvvv_register f.prefixes
+
+abbrev pub written_by : Write → Fields → ℕ
+written_by Nothing f = 0
+written_by Rm f = rm_written f
+written_by Reg f = reg_written f
+written_by Both f = bit_or (reg_written f) (rm_written f)
+written_by Opcode f = opcode_written f
+written_by Vvvv f = vvvv_written f
+written_by RegAndVvvv f = bit_or (reg_written f) (vvvv_written f)
+
+-- those that ModRM, the opcode or VEX names
+unfoldable pub named_written : Fields → ℕ
+named_written f = written_by f.shape.written.write f
+
+-- all of them
+unfoldable pub registers_written : Fields → ℕ
+registers_written f = bit_or (named_written f) f.shape.written.implied

@@ -1,23 +1,40 @@
 -- What an instruction does to rsp (register 4), rbp (register 5), the stack and the flow of control.
 use Rattle.std.specs.Prelude.{ℕ, true, false, not, ◌&&◌, ◌||◌, ◌==◌, if◌then◌else◌, Option, Some, None, pos, neg_ℤ}
+use Rattle.operation_defs.specs.declared.op.DrapRegister.{DrapRegister}
+use Rattle.operation_defs.specs.declared.op.DrapRegister.TheVariants.{R10, R13}
 use Rattle.operation_defs.specs.declared.op.Op.{Op}
 use Rattle.operation_defs.specs.declared.op.Op.TheVariants as ops
+use Rattle.operation_defs.specs.Made.{has_register}
 use Rattle.x86_map.specs.Prefixes.{rex_w, rex_b, under_F3, under_F2}
 use Rattle.x86_decode.specs.declared.fields.Fields.{Fields}
 use Rattle.x86_decode.specs.declared.action.Action.{Action}
 use Rattle.x86_decode.specs.declared.action.Action.TheVariants.{Other, Exchange, NoOperation, Hint, PushRegister, Push, PopRegister, PopOperand, Pop, PopFlags, Arithmetic, SubtractFrom, Subtract, Store, Load, LoadAddress, Enter, Leave, Call, ShortJump, Jump, ShortCondition, Condition, Return, ReturnImmediate, InterruptReturn, Far, Undefined, Breakpoint, Group5, Group7, Group11}
-use Rattle.x86_decode.specs.Fields.{modrm, is_register, digit, reg_register, rm_register, opcode_register, is_at_rsp, is_at_rbp, is_table_entry, writes}
+use Rattle.x86_decode.specs.Fields.{modrm, is_register, digit, reg_register, rm_register, opcode_register, is_at_rsp, is_at_rbp, is_at_register, is_near_register, is_table_entry, named_written, registers_written}
 use Rattle.x86_decode.specs.Action.{action_of}
+
+-- those that write neither rsp nor rbp, by the registers that they write
+abbrev pub written_besides : ℕ → Op
+written_besides registers =
+    if has_register registers 10 || has_register registers 13 then ops.RegOther (has_register registers 10) (has_register registers 13)
+    else ops.Plain
 
 -- All other instructions: by the registers that they write.
 abbrev pub written : Fields → Op
-written f = if writes f 4 then ops.SpOther else (if writes f 5 then ops.BpOther else ops.Plain)
+written f =
+    if has_register (named_written f) 4 then ops.SpOther
+    else (if has_register (named_written f) 5 then ops.BpOther else written_besides (registers_written f))
+
+-- an operation of r10 or r13, or else another, by the number of a register
+abbrev pub of_drap : (DrapRegister → Op) → ℕ → Op → Op
+of_drap op register other = if register == 10 then op R10 else (if register == 13 then op R13 else other)
 
 abbrev pub pushed : ℕ → Op
-pushed register = if register == 5 then ops.PushBp else ops.Push
+pushed register = if register == 5 then ops.PushBp else of_drap (λ reg. ops.PushReg reg) register ops.Push
 
 abbrev pub popped : ℕ → Op
-popped register = if register == 5 then ops.PopBp else (if register == 4 then ops.SpOther else ops.Pop)
+popped register =
+    if register == 5 then ops.PopBp
+    else (if register == 4 then ops.PopSp else of_drap (λ reg. ops.PopReg reg) register ops.Pop)
 
 -- PUSH Ev, POP Ev
 unfoldable pub push_operand : Fields → Op
@@ -52,21 +69,24 @@ abbrev pub copied : ℕ → ℕ → Fields → Op
 copied to from f =
     if (to == 4) && (from == 5) then ops.LeaSpBp (pos 0)
     else (if (to == 5) && (from == 4) then ops.LeaBpSp (pos 0)
-    else (if (to == 4) && not (from == 4) then ops.SpReg else written f))
+    else (if (to == 4) && not (from == 4) then ops.SpReg from
+    else (if (from == 4) && not (to == 4) then ops.LeaReg to (pos 0) else written f)))
 
 -- MOV Ev, Gv
 unfoldable pub stored : Fields → Op
 stored f =
     if not (rex_w f.prefixes) then written f
     else (if is_register f then copied (rm_register f) (reg_register f) f
-    else (if is_at_rsp f && (reg_register f == 5) then ops.StoreBp f.displacement else written f))
+    else (if is_at_rsp f && (reg_register f == 5) then ops.StoreBp f.displacement
+    else (if is_at_register f && (reg_register f == 4) then ops.StoreSp (rm_register f) else written f)))
 
 -- MOV Gv, Ev
 unfoldable pub loaded : Fields → Op
 loaded f =
     if not (rex_w f.prefixes) then written f
     else (if is_register f then copied (reg_register f) (rm_register f) f
-    else (if is_at_rsp f && (reg_register f == 5) then ops.LoadBp f.displacement else written f))
+    else (if is_at_rsp f && (reg_register f == 5) then ops.LoadBp f.displacement
+    else (if is_at_rbp f then of_drap (λ reg. ops.LoadReg reg f.displacement) (reg_register f) (written f) else written f)))
 
 -- LEA
 unfoldable pub address_loaded : Fields → Op
@@ -74,7 +94,9 @@ address_loaded f =
     if not (rex_w f.prefixes) then written f
     else (if (reg_register f == 4) && is_at_rsp f then ops.AddSp f.displacement
     else (if (reg_register f == 4) && is_at_rbp f then ops.LeaSpBp f.displacement
-    else (if (reg_register f == 5) && is_at_rsp f then ops.LeaBpSp f.displacement else written f)))
+    else (if (reg_register f == 4) && is_near_register f then of_drap (λ reg. ops.LeaSpReg reg f.displacement) (rm_register f) (written f)
+    else (if (reg_register f == 5) && is_at_rsp f then ops.LeaBpSp f.displacement
+    else (if not (reg_register f == 4) && is_at_rsp f then ops.LeaReg (reg_register f) f.displacement else written f)))))
 
 -- the table of an indirect jump: where its address stands in the instruction
 unfoldable pub jump_table : Fields → Option ℕ

@@ -16,6 +16,7 @@ use Rattle.x86_decode.specs.declared.reading.ReadStop.{ReadStop}
 use Rattle.x86_decode.specs.declared.reading.ReadStop.TheVariants.{Dead, More}
 use Rattle.x86_decode.specs.Prefix.{is_legacy}
 use Rattle.x86_decode.specs.Spelling.{Operands, optional, has_sib, displacement_len, fields_of}
+use Rattle.x86_decode.specs.Fields.{registers_written}
 use Rattle.x86_decode.specs.Operation.{operation}
 
 abbrev pub Read : Type 0
@@ -33,6 +34,7 @@ finished p number opcode modrm sib shape before displacement immediate =
     record {
       len = before + length (optional modrm) + length (optional sib) + length displacement + length immediate;
       op = operation (fields_of p number opcode before operands shape);
+      writes = registers_written (fields_of p number opcode before operands shape);
     }
 
 unfoldable pub rest_at : Prefixes → ℕ → ℕ → Option ℕ → Option ℕ → Shape → ℕ → List ℕ → Read

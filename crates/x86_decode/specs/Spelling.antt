@@ -13,7 +13,7 @@ use Rattle.x86_map.specs.Form.{modrm_mod, modrm_rm}
 use Rattle.x86_map.specs.OpcodeMap.{look}
 use Rattle.x86_decode.specs.declared.fields.Fields.{Fields}
 use Rattle.x86_decode.specs.Prefix.{is_legacy, prefixes_of}
-use Rattle.x86_decode.specs.Fields.{sib_base, signed}
+use Rattle.x86_decode.specs.Fields.{sib_base, signed, registers_written}
 use Rattle.x86_decode.specs.Operation.{operation}
 
 -- an opcode: one byte; a byte behind 0F, 0F 38 or 0F 3A; or a byte behind VEX or EVEX
@@ -133,8 +133,8 @@ fields_in map parts shape =
     let before = length parts.legacy + length (optional parts.rex) + length (opcode_bytes parts.opcode) in
     fields_of (prefixes_in map parts) (map_of parts.opcode) (byte_of parts.opcode) before parts.operands shape
 
--- The bytes, all of them, spell one instruction, of this length and operation: they are legacy prefixes in any number and
--- order, at most one REX, an opcode of the map, and the operands that follow it there.
+-- The bytes, all of them, spell one instruction, of this length, operation and written registers: they are legacy prefixes in
+-- any number and order, at most one REX, an opcode of the map, and the operands that follow it there.
 pub record Spells (map : Map) (bytes : List ℕ) (insn : Insn) : Type 0 where
   pub parts : Parts
   pub shape : Shape
@@ -145,6 +145,7 @@ pub record Spells (map : Map) (bytes : List ℕ) (insn : Insn) : Type 0 where
   pub operands : Follow (prefixes_in map parts) (map_of parts.opcode) (byte_of parts.opcode) parts.operands shape
   pub len : insn.len ≡ length bytes
   pub op : insn.op ≡ operation (fields_in map parts shape)
+  pub writes : insn.writes ≡ registers_written (fields_in map parts shape)
 
 -- at most 15 of the bytes, from the first on, spell the instruction
 abbrev pub SpelledInFront : Map → List ℕ → Insn → Type 0

@@ -14,28 +14,32 @@ use Rattle.x86_decode.specs.Reading.{no_prefixes}
 abbrev pub usual_prefixes : Map → Option ℕ → Prefixes
 usual_prefixes map rex = record (no_prefixes map) { rex = rex }
 
--- how many bytes the displacement of a near branch has, where the opcode is one
+-- how many bytes the displacement of a usual near branch has, where the opcode is one
 unfoldable pub branch_len : ℕ → ℕ → Option ℕ
 branch_len number opcode =
     if number == 1 then
-    (if (0x70 to 0x7F) opcode || (0xE0 to 0xE3) opcode || (opcode == 0xEB) then Some 1
+    (if (0x70 to 0x7F) opcode || (opcode == 0xEB) then Some 1
     else (if (0xE8 to 0xE9) opcode then Some 4 else None))
     else (if number == 2 then (if (0x80 to 0x8F) opcode then Some 4 else None) else None)
 
+-- a byte register or not, of those that are named
+abbrev pub named : Bool → Write → Written
+named byte write = record { byte = byte; write = write; implied = 0 }
+
 abbrev nothing : Written
-nothing = record { byte = false; write = write.Nothing }
+nothing = named false write.Nothing
 
 abbrev byte_rm : Written
-byte_rm = record { byte = true; write = write.Rm }
+byte_rm = named true write.Rm
 
 abbrev rm : Written
-rm = record { byte = false; write = write.Rm }
+rm = named false write.Rm
 
 abbrev byte_reg : Written
-byte_reg = record { byte = true; write = write.Reg }
+byte_reg = named true write.Reg
 
 abbrev reg : Written
-reg = record { byte = false; write = write.Reg }
+reg = named false write.Reg
 
 -- what is written by many opcodes that any ModRM byte and no immediate follow
 unfoldable pub modrm_written : ℕ → ℕ → Option Written
@@ -53,7 +57,7 @@ modrm_written number opcode =
 
 -- ModRM, an immediate of so many bytes, and which register is written
 abbrev pub modrm_shape : ℕ → Bool → Write → Shape
-modrm_shape imm byte write = record { modrm = true; imm = imm; written = record { byte = byte; write = write } }
+modrm_shape imm byte write = record { modrm = true; imm = imm; written = named byte write }
 
 -- ADD to XOR of an immediate; CMP, the last digit, writes nothing
 abbrev pub group_1_shape : ℕ → Bool → ℕ → Shape

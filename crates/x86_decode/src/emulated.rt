@@ -3,7 +3,7 @@
 ghost use Rattle.std.specs.Prelude.{◌≡◌, ◌≤◌, true, length, take, drop};
 ghost use Rattle.x86_map.specs.declared.map.Map.TheVariants.{Whole};
 ghost use Rattle.x86_decode.specs.Reading.{reading};
-ghost use Rattle.x86_decode.specs.Emulation.{begins_emulated, emulated_by, emulated_in};
+ghost use Rattle.x86_decode.specs.Emulation.{begins_emulated, emulated_by, emulated_in, is_plain};
 
 use crate::reading::read;
 use crate::{MAX_LEN, front_of};
@@ -43,10 +43,17 @@ fn emulated_behind(behind: &[u8]) -> Option<Insn>
     ensures { result ≡ emulated_by (reading Whole (take 10 behind.now)) }
 {
     match read(Map::Whole, front_of(behind, MAX_LEN - XEN.len())) {
-        Ok(Insn { len, op: Op::Plain }) => Some(Insn {
-            len: 5 + len,
-            op: Op::Plain,
+        Ok(insn) if is_plain(insn.op) => Some(Insn {
+            len: 5 + insn.len,
+            ..insn
         }),
         _ => None,
     }
+}
+
+/// Whether an instruction writes neither rsp nor rbp in a way that is told, and goes on.
+fn is_plain(op: Op) -> bool
+    ensures { result ≡ is_plain op }
+{
+    matches!(op, Op::Plain | Op::RegOther { .. })
 }

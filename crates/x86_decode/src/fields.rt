@@ -12,6 +12,8 @@ ghost use Rattle.x86_decode.specs.Fields.{
   is_plain_address,
   is_at_rsp,
   is_at_rbp,
+  is_at_register,
+  is_near_register,
   is_table_entry,
 };
 
@@ -84,21 +86,24 @@ impl Fields {
 
     #[inline(always)]
     pub(crate) fn reg_register(&self) -> u8
-        ensures { result ≡ reg_register self.now }
+        ensures number { result ≡ reg_register self.now }
+        ensures few { result < 16 }
     {
         extended(self.prefixes.rex_r(), self.digit())
     }
 
     #[inline(always)]
     pub(crate) fn rm_register(&self) -> u8
-        ensures { result ≡ rm_register self.now }
+        ensures number { result ≡ rm_register self.now }
+        ensures few { result < 16 }
     {
         extended(self.prefixes.rex_b(), self.modrm() % 8)
     }
 
     #[inline(always)]
     pub(crate) fn opcode_register(&self) -> u8
-        ensures { result ≡ opcode_register self.now }
+        ensures number { result ≡ opcode_register self.now }
+        ensures few { result < 16 }
     {
         extended(self.prefixes.rex_b(), self.opcode % 8)
     }
@@ -136,6 +141,22 @@ impl Fields {
     }
 
     #[inline(always)]
+    pub(crate) fn is_at_register(&self) -> bool
+        ensures { result ≡ is_at_register self.now }
+    {
+        let modrm = self.modrm();
+        modrm / 64 == 0 && modrm % 8 != 4 && modrm % 8 != 5 && self.is_plain_address()
+    }
+
+    #[inline(always)]
+    pub(crate) fn is_near_register(&self) -> bool
+        ensures { result ≡ is_near_register self.now }
+    {
+        let modrm = self.modrm();
+        (modrm / 64 == 1 || modrm / 64 == 2) && modrm % 8 != 4 && self.is_plain_address()
+    }
+
+    #[inline(always)]
     pub(crate) fn is_table_entry(&self) -> bool
         ensures { result ≡ is_table_entry self.now }
     {
@@ -153,7 +174,8 @@ impl Fields {
 #[inline(always)]
 fn extended(bit: bool, field: u8) -> u8
     requires { field < 8 }
-    ensures { result ≡ extended bit field }
+    ensures number { result ≡ extended bit field }
+    ensures few { result < 16 }
 {
     if bit { field + 8 } else { field }
 }

@@ -15,12 +15,13 @@ mod operation;
 mod prefix;
 mod reading;
 mod usual;
+mod writes;
 
 use crate::emulated::emulated;
 use crate::reading::{ReadStop, read};
 use crate::usual::read_usual;
 pub use fault_text::DecodeFaultText;
-pub use operation_defs::{Insn, Op};
+pub use operation_defs::{DrapRegister, Insn, Op};
 pub use x86_map::Map;
 
 /// Why no instruction stands at the front of the bytes.

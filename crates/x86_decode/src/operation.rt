@@ -1,7 +1,8 @@
-ghost use Rattle.std.specs.Prelude.{◌≡◌, ◌==◌, ◌||◌, if◌then◌else◌, unwrap_or};
-ghost use Rattle.operation_defs.specs.declared.op.Op.TheVariants as ops;
+ghost use Rattle.std.specs.Prelude.{◌≡◌, ◌↔◌, Some, unwrap_or};
+ghost use Rattle.operation_defs.specs.declared.op.DrapRegister.TheVariants.{R10, R13};
 ghost use Rattle.x86_decode.specs.Operation.{
   written,
+  written_besides,
   pushed,
   popped,
   push_operand,
@@ -24,8 +25,8 @@ ghost use Rattle.x86_decode.specs.Operation.{
 
 use crate::action::{Action, action_at};
 use crate::fields::Fields;
-use operation_defs::Op;
-use x86_map::Write;
+use crate::writes::{has_register, named_written, registers_written};
+use operation_defs::{DrapRegister, Op};
 
 /// What an instruction does.
 #[inline(never)]
@@ -116,45 +117,40 @@ fn own_operation(action: Action, f: &Fields) -> Option<Op>
 fn written(f: &Fields) -> Op
     ensures { result ≡ written f.now }
 {
-    if f.shape.written.byte && f.prefixes.rex.is_none() {
-        return Op::Plain;
-    }
-    match f.shape.written.write {
-        Write::Nothing => Op::Plain,
-        Write::Rm if f.is_register() => register_written(f.rm_register()),
-        Write::Rm => Op::Plain,
-        Write::Reg => register_written(f.reg_register()),
-        Write::Both if f.is_register() => { either_written(f.reg_register(), f.rm_register()) }
-        Write::Both => register_written(f.reg_register()),
-        Write::Opcode => register_written(f.opcode_register()),
-        Write::Vvvv => register_written(f.prefixes.vvvv_register()),
-        Write::RegAndVvvv => { either_written(f.reg_register(), f.prefixes.vvvv_register()) }
-    }
-}
-
-/// What an instruction does that writes the register of this number.
-#[inline(always)]
-fn register_written(register: u8) -> Op
-    ensures { result ≡ (if register == 4 then ops.SpOther else (if register == 5 then ops.BpOther else ops.Plain)) }
-{
-    match register {
-        4 => Op::SpOther,
-        5 => Op::BpOther,
-        _ => Op::Plain,
-    }
-}
-
-/// What an instruction does that writes both registers of these numbers.
-#[inline(always)]
-fn either_written(one: u8, other: u8) -> Op
-    ensures { result ≡ (if (one == 4) || (other == 4) then ops.SpOther else (if (one == 5) || (other == 5) then ops.BpOther else ops.Plain)) }
-{
-    if one == 4 || other == 4 {
+    let named = named_written(f);
+    if has_register(named, 4) {
         Op::SpOther
-    } else if one == 5 || other == 5 {
+    } else if has_register(named, 5) {
         Op::BpOther
     } else {
+        written_besides(registers_written(f))
+    }
+}
+
+/// What an instruction does that writes neither rsp nor rbp, by the registers that it writes.
+#[inline(always)]
+fn written_besides(registers: u16) -> Op
+    ensures { result ≡ written_besides registers }
+{
+    let r10 = has_register(registers, 10);
+    let r13 = has_register(registers, 13);
+    if r10 || r13 {
+        Op::RegOther { r10, r13 }
+    } else {
         Op::Plain
+    }
+}
+
+/// R10 or r13, by its number.
+#[inline(always)]
+fn drap_register(register: u8) -> Option<DrapRegister>
+    ensures r10 { (result ≡ Some R10) ↔ (register ≡ 10) }
+    ensures r13 { (result ≡ Some R13) ↔ (register ≡ 13) }
+{
+    match register {
+        10 => Some(DrapRegister::R10),
+        13 => Some(DrapRegister::R13),
+        _ => None,
     }
 }
 
@@ -162,7 +158,16 @@ fn either_written(one: u8, other: u8) -> Op
 fn pushed(register: u8) -> Op
     ensures { result ≡ pushed register }
 {
-    if register == 5 { Op::PushBp } else { Op::Push }
+    match register {
+        5 => Op::PushBp,
+        10 => Op::PushReg {
+            reg: DrapRegister::R10,
+        },
+        13 => Op::PushReg {
+            reg: DrapRegister::R13,
+        },
+        _ => Op::Push,
+    }
 }
 
 #[inline(always)]
@@ -170,8 +175,14 @@ fn popped(register: u8) -> Op
     ensures { result ≡ popped register }
 {
     match register {
+        4 => Op::PopSp,
         5 => Op::PopBp,
-        4 => Op::SpOther,
+        10 => Op::PopReg {
+            reg: DrapRegister::R10,
+        },
+        13 => Op::PopReg {
+            reg: DrapRegister::R13,
+        },
         _ => Op::Pop,
     }
 }
@@ -261,7 +272,8 @@ fn copied(to: u8, from: u8, f: &Fields) -> Option<Op>
         (4, 5) => Some(Op::LeaSpBp { by: 0 }),
         (5, 4) => Some(Op::LeaBpSp { by: 0 }),
         (4, 4) => None,
-        (4, _) => Some(Op::SpReg),
+        (4, _) => Some(Op::SpReg { reg: from }),
+        (_, 4) => Some(Op::LeaReg { reg: to, by: 0 }),
         _ => None,
     }
 }
@@ -279,6 +291,10 @@ fn stored(f: &Fields) -> Option<Op>
         Some(Op::StoreBp {
             at: i64::from(f.displacement),
         })
+    } else if f.is_at_register() && f.reg_register() == 4 {
+        Some(Op::StoreSp {
+            reg: f.rm_register(),
+        })
     } else {
         None
     }
@@ -295,6 +311,12 @@ fn loaded(f: &Fields) -> Option<Op>
         copied(f.reg_register(), f.rm_register(), f)
     } else if f.is_at_rsp() && f.reg_register() == 5 {
         Some(Op::LoadBp {
+            at: i64::from(f.displacement),
+        })
+    } else if f.is_at_rbp() {
+        let reg = drap_register(f.reg_register())?;
+        Some(Op::LoadReg {
+            reg,
             at: i64::from(f.displacement),
         })
     } else {
@@ -316,8 +338,13 @@ fn address_loaded(f: &Fields) -> Option<Op>
         Some(Op::AddSp { by })
     } else if register == 4 && f.is_at_rbp() {
         Some(Op::LeaSpBp { by })
+    } else if register == 4 && f.is_near_register() {
+        let reg = drap_register(f.rm_register())?;
+        Some(Op::LeaSpReg { reg, by })
     } else if register == 5 && f.is_at_rsp() {
         Some(Op::LeaBpSp { by })
+    } else if register != 4 && f.is_at_rsp() {
+        Some(Op::LeaReg { reg: register, by })
     } else {
         None
     }

@@ -31,6 +31,7 @@ ghost use Rattle.x86_decode.specs.Reading.{
 use crate::fields::{Fields, signed_number};
 use crate::operation::operation_of;
 use crate::prefix::{no_prefixes, noted};
+use crate::writes::registers_written;
 use operation_defs::Insn;
 use x86_map::{
     Look, Map, Prefixes, Shape, Vector, accepts_some, evex_number, is_evex_second, lookup,
@@ -372,6 +373,7 @@ fn finished(
     Insn {
         len: f.displacement_at + displacement.len() as u8 + immediate.len() as u8,
         op: operation_of(&f),
+        writes: registers_written(&f),
     }
 }
 

@@ -14,6 +14,7 @@ ghost use Rattle.x86_decode.specs.Operation.{operation_by};
 ghost use Rattle.x86_decode.specs.UsualForms.{
   usual_prefixes,
   branch_len,
+  named,
   modrm_written,
   modrm_shape,
   group_1_shape,
@@ -27,6 +28,7 @@ use crate::fields::signed_number;
 use crate::operation::inline_operation_of;
 use crate::prefix::no_prefixes;
 use crate::reading::{count, displacement_len, fields_of, has_sib};
+use crate::writes::registers_written;
 use operation_defs::{Insn, Op};
 use x86_map::{Look, Map, Prefixes, Shape, Write, Written, lookup};
 
@@ -113,10 +115,10 @@ fn read_branch(number: u8, opcode: u8, end: u8, bytes: &[u8]) -> Option<Insn>
     let rel = signed_number(&bytes[at..at + len as usize]);
     let op = branch(action_at(number, opcode), rel)?;
     let len = end + len;
-    Some(Insn { len, op })
+    Some(Insn { len, op, writes: 0 })
 }
 
-/// How many bytes the displacement of a near branch has.
+/// How many bytes the displacement of a usual near branch has.
 #[tactic(auto, unfolding(crate::specs::UsualForms::branch_len))]
 #[inline(always)]
 fn branch_len(number: u8, opcode: u8) -> Option<u8>
@@ -137,7 +139,7 @@ fn one_byte_branch_len(opcode: u8) -> Option<u8>
     ensures short { IfSome result (λ len. len ≤ 4) }
 {
     match opcode {
-        0x70..=0x7F | 0xE0..=0xE3 | 0xEB => Some(1),
+        0x70..=0x7F | 0xEB => Some(1),
         0xE8..=0xE9 => Some(4),
         _ => None,
     }
@@ -260,7 +262,19 @@ fn modrm_shape(imm: u8, byte: bool, write: Write) -> Shape
     Shape {
         modrm: true,
         imm,
-        written: Written { byte, write },
+        written: named(byte, write),
+    }
+}
+
+/// The registers that are named.
+#[inline(always)]
+fn named(byte: bool, write: Write) -> Written
+    ensures { result ≡ named byte write }
+{
+    Written {
+        byte,
+        write,
+        implied: 0,
     }
 }
 
@@ -302,7 +316,7 @@ fn one_byte_written(opcode: u8) -> Option<Written>
         0x03 | 0x0B | 0x13 | 0x1B | 0x23 | 0x2B | 0x33 | 0x63 | 0x8B => (false, Write::Reg),
         _ => return None,
     };
-    Some(Written { byte, write })
+    Some(named(byte, write))
 }
 
 #[tactic(auto, unfolding(crate::specs::UsualForms::modrm_written))]
@@ -315,7 +329,7 @@ fn two_byte_written(opcode: u8) -> Option<Written>
         0x40..=0x4F | 0xAF | 0xB6 | 0xB7 | 0xBE | 0xBF => (false, Write::Reg),
         _ => return None,
     };
-    Some(Written { byte, write })
+    Some(named(byte, write))
 }
 
 /// What the opcode map says follows the opcode, if this byte does and it is asked for in the right way.
@@ -414,5 +428,6 @@ fn read_usual_rest(
     Some(Insn {
         len: f.displacement_at + displacement.len() as u8 + immediate.len() as u8,
         op: inline_operation_of(&f),
+        writes: registers_written(&f),
     })
 }

@@ -115,7 +115,8 @@ impl Prefixes {
 
     /// The register that the vvvv of VEX or EVEX names; 0 without them.
     pub fn vvvv_register(&self) -> u8
-        ensures { result ≡ vvvv_register self.now }
+        ensures number { result ≡ vvvv_register self.now }
+        ensures few { result < 16 }
     {
         match self.vector {
             None => 0,

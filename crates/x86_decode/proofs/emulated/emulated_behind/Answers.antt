@@ -8,6 +8,6 @@ use Rattle.x86_decode.proofs.emulated.emulated_behind.Goals as goal
 
 pub overflow_add-result : goal.overflow_add-result
 overflow_add-result c =
-    let read : reading Whole (take 10 c.args.behind.now) ≡ ok_of c.in-Ok-Plain.field-0 = sym (ap (reading Whole) c.front_of.ensures.front) ∙ sym c.read.ensures ∙ c.in-Ok-Plain.is in
-    let few = (read_within Whole c.args.behind.now c.in-Ok-Plain.field-0 10 (bytes_from_each c.args.behind.now (λ k. omega (arith, c.type_inv.behind k))) read).0 in
+    let read : reading Whole (take 10 c.args.behind.now) ≡ ok_of c.in-Ok.insn = sym (ap (reading Whole) c.front_of.ensures.front) ∙ sym c.read.ensures ∙ c.in-Ok.is in
+    let few = (read_within Whole c.args.behind.now c.in-Ok.insn 10 (bytes_from_each c.args.behind.now (λ k. omega (arith, c.type_inv.behind k))) read).0 in
     omega (arith, few)
