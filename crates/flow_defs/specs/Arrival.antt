@@ -130,15 +130,8 @@ around o point = record {
   intra_call = is_intra_call o point;
   within = goes_on_behind o point (owner_of_point o point) (after o point);
   hinted = list_all (λ q. tells_frame (hint_of o (point_at o q))) (after o point);
-  makes_room = false;
   returning = is_some (returning_target o (destination_of o point));
   loads_stack = false;
-  kept = false;
-  back = false;
-  drap = None;
-  to_cell = false;
-  copies_bp = None;
-  stores_bp = None;
 }
 
 -- The instruction of a point, with what a program makes of its decoded operation. Where control goes is told by it,

@@ -6,7 +6,7 @@ use Rattle.operation_defs.specs.declared.op.DrapRegister.{DrapRegister}
 use Rattle.operation_defs.specs.declared.op.DrapRegister.TheVariants.{R10, R13}
 use Rattle.operation_defs.specs.declared.op.Op.{Op}
 use Rattle.operation_defs.specs.declared.op.Op.TheVariants.{AndSp, LeaBpSp, LeaReg, LeaSpBp, SpReg, StoreSp, SubSp}
-use Rattle.operation_defs.specs.Made.{Around, made}
+use Rattle.operation_defs.specs.Made.{Copying, made_by_copies}
 use Rattle.machine_defs.specs.declared.flow.Edge.{Edge}
 use Rattle.machine_defs.specs.Program.{Program, IsPoint, below, is_local, loses}
 use Rattle.machine_defs.specs.Kept.{edges_of, is_at_entry, is_free}
@@ -137,15 +137,10 @@ keeps_by p q _ = false
 abbrev pub drap_at : Program → ℕ → Option DrapRegister
 drap_at p q = if not (is_stale p q 10) then Some R10 else if not (is_stale p q 13) then Some R13 else None
 
--- what copies of rsp, and other stacks, say around a point of a program; what the object itself says was made of it before
-abbrev pub around_copies : Program → ℕ → Around
-around_copies p q = record {
-  intra_call = false;
-  within = false;
-  hinted = false;
+-- what copies of rsp, and other stacks, say of a point
+abbrev pub copying_at : Program → ℕ → Copying
+copying_at p q = record {
   makes_room = owner_makes_room p (p.owner q);
-  returning = false;
-  loads_stack = false;
   kept = keeps_by p q (p.insn q).op;
   back = comes_back_by p q (p.insn q).op;
   drap = drap_at p q;
@@ -156,4 +151,4 @@ around_copies p q = record {
 
 -- the instruction of a point, with what copies of rsp make of it
 unfoldable pub insn_with_copies : Program → ℕ → Insn
-insn_with_copies p q = record (p.insn q) { op = made (around_copies p q) (p.insn q).op }
+insn_with_copies p q = record (p.insn q) { op = made_by_copies (copying_at p q) (p.insn q).op }

@@ -49,11 +49,6 @@ is_decoded (CopyBp reg) = false
 is_decoded (StoreThrough reg at) = false
 is_decoded _ = true
 
--- a store of a register at an offset from rsp
-pub record Stored : Type 0 where
-  pub reg : ℕ
-  pub at : ℤ
-
 -- What an object says around an instruction. The owner of code is its function, of a part (`f.cold`) its parent; the points
 -- after an instruction are those that follow it, whatever it does.
 pub record Around : Type 0 where
@@ -63,13 +58,33 @@ pub record Around : Type 0 where
   pub within : Bool
   -- at each point after it a hint tells a call frame, or restores what a SAVE marked (CALL, FUNC or RESTORE)
   pub hinted : Bool
-  -- it has an owner, one of whose points, of any variant, is decoded as SubSp, or as an SpReg that is neither a BackSp nor behind
-  -- a CellSp
-  pub makes_room : Bool
   -- its target is the place of a returning name, whose code returns for its caller
   pub returning : Bool
   -- it is in code that switches tasks, and loads rsp from memory: a wide MOV (8B with REX.W) without a legacy prefix
   pub loads_stack : Bool
+
+-- What a program makes of a decoded operation by that.
+abbrev pub made : Around → Op → Op
+-- 1. a call of code that returns for its caller is a jump there; any other within a function is a push and a jump
+made around (Call rel) = if around.returning then Jmp rel true else if around.intra_call then Hop else Call rel
+-- 2. an IRET with its function behind it goes on behind itself
+made around Iret = if around.within then IretNext else Iret
+-- 3. a way out by the system with its function behind it, where hints tell the stack again, comes back there
+made around Switch = if around.within && around.hinted then SpOther else Switch
+-- 4. where tasks are switched, rsp that is loaded is that of this task, as it left it; only rbp is another
+made around SpOther = if around.loads_stack then BpOther else SpOther
+-- 5. all else is what it is decoded as
+made around op = op
+
+-- a store of a register at an offset from rsp
+pub record Stored : Type 0 where
+  pub reg : ℕ
+  pub at : ℤ
+
+-- What the ways through a program say of an instruction's registers.
+pub record Copying : Type 0 where
+  -- it has an owner, one of whose points, of any variant, is a SubSp, or an SpReg that is neither a BackSp nor behind a CellSp
+  pub makes_room : Bool
   -- an edge of it leads to a point at which the register that it sets from rsp is held
   pub kept : Bool
   -- the register that it puts into rsp is a copy of rsp on every way there, and it isn't behind a CellSp
@@ -78,7 +93,7 @@ pub record Around : Type 0 where
   pub drap : Option DrapRegister
   -- there are points after it, and all of them put the register at which it stores rsp into rsp
   pub to_cell : Bool
-  -- it copies rbp to this register, and a point behind it stores that through it
+  -- it copies rbp to this register, and a point behind it stores that
   pub copies_bp : Option ℕ
   -- it stores this register, to which each way there copies rbp right before it
   pub stores_bp : Option Stored
@@ -92,26 +107,18 @@ made_plain None None = Plain
 made_plain None (Some stored) = StoreThrough stored.reg stored.at
 made_plain (Some reg) stored = CopyBp reg
 
--- What a program makes of a decoded operation.
-abbrev pub made : Around → Op → Op
--- 1. a call of code that returns for its caller is a jump there; any other within a function is a push and a jump
-made around (Call rel) = if around.returning then Jmp rel true else if around.intra_call then Hop else Call rel
--- 2. in a function that makes room rbp is set as the base over room; elsewhere it may be held as a copy of rsp
-made around (LeaBpSp by) = if around.makes_room then LeaBpRoom by else if around.kept then Keep 5 by else LeaBpSp by
--- 3. an IRET with its function behind it goes on behind itself
-made around Iret = if around.within then IretNext else Iret
--- 4. a way out by the system with its function behind it, where hints tell the stack again, comes back there
-made around Switch = if around.within && around.hinted then SpOther else Switch
--- 5. where tasks are switched, rsp that is loaded is that of this task, as it left it; only rbp is another
-made around SpOther = if around.loads_stack then BpOther else SpOther
--- 6. a register may be held as a copy of rsp, and rsp come back from it
-made around (LeaReg reg by) = if around.kept then Keep reg by else LeaReg reg by
-made around (SpReg reg) = if around.back then BackSp reg else SpReg reg
--- 7. where rsp is aligned, r10 or r13 may hold the frame's top
-made around (AndSp mask) = made_align mask around.drap
--- 8. where rsp is saved at the place of another stack to which it goes at once, it is saved in a cell of that stack
-made around (StoreSp reg) = if around.to_cell then CellSp reg else StoreSp reg
--- 9. rbp may be saved through another register
-made around Plain = made_plain around.copies_bp around.stores_bp
--- 10. all else is what it is decoded as
-made around op = op
+-- What a program makes of an operation by that.
+abbrev pub made_by_copies : Copying → Op → Op
+-- 1. in a function that makes room rbp is set as the base over room; elsewhere it may be held as a copy of rsp
+made_by_copies copying (LeaBpSp by) = if copying.makes_room then LeaBpRoom by else if copying.kept then Keep 5 by else LeaBpSp by
+-- 2. another register may be held so, and rsp come back from it
+made_by_copies copying (LeaReg reg by) = if copying.kept then Keep reg by else LeaReg reg by
+made_by_copies copying (SpReg reg) = if copying.back then BackSp reg else SpReg reg
+-- 3. where rsp is aligned, r10 or r13 may hold the frame's top
+made_by_copies copying (AndSp mask) = made_align mask copying.drap
+-- 4. where rsp is saved at the place of another stack to which it goes at once, it is saved in a cell of that stack
+made_by_copies copying (StoreSp reg) = if copying.to_cell then CellSp reg else StoreSp reg
+-- 5. rbp may be saved through another register
+made_by_copies copying Plain = made_plain copying.copies_bp copying.stores_bp
+-- 6. all else stays
+made_by_copies copying op = op
