@@ -12,7 +12,7 @@ use Rattle.machine_defs.specs.Program.{Site}
 use Rattle.alternatives.specs.declared.point.Point.{Point}
 use Rattle.alternatives.specs.Texts.{behind}
 use Rattle.flow_defs.specs.Coded.{Coded}
-use Rattle.flow_defs.specs.Arrival.{decoded_insn, is_nop, is_room, is_short_nop, is_ud2}
+use Rattle.flow_defs.specs.Arrival.{decoded_insn, is_nop, is_short_nop, is_ud2}
 use Rattle.flow_defs.specs.Code.{is_plain, plain_point, point_at, points_of_object, same_point}
 use Rattle.flow_defs.specs.Marks.{has_relocated_offset, has_stack_offset}
 use Rattle.flow_defs.specs.Sites.{site_holding}
@@ -25,7 +25,7 @@ use Rattle.point_arrivals.specs.Lists.{told_places_of}
 use Rattle.point_arrivals.specs.Seen.{IsSeen}
 use Rattle.point_arrivals.specs.Straight.{end_of, is_next_at, is_straight_insn, is_straight_op, may_begin_run}
 use Rattle.point_arrivals.specs.declared.course.Course.{Course}
-use Rattle.point_arrivals.specs.declared.course.Course.TheVariants.{Straight, Idle, Turn, Room, Offset, Stop}
+use Rattle.point_arrivals.specs.declared.course.Course.TheVariants.{Straight, Idle, Turn, Offset, Stop}
 use Rattle.point_arrivals.specs.declared.course.InsnCourse.{InsnCourse}
 use Rattle.point_arrivals.specs.declared.kind.Kind.{Kind}
 use Rattle.point_arrivals.specs.declared.told.SeenPoint.{SeenPoint}
@@ -39,12 +39,11 @@ Tells Idle straight offset ud2 = (straight ≡ true) × (offset ≡ false)
 Tells Turn straight offset ud2 = (straight ≡ false) × (ud2 ≡ false)
 Tells course straight offset ud2 = ⊤
 
-tells_by : (room offset ud2 straight : Bool) → Tells (if room then Room else if offset then Offset else if ud2 then Stop else if straight then Straight else Turn) straight offset ud2
-tells_by true offset ud2 straight = tt
-tells_by false true ud2 straight = tt
-tells_by false false true straight = tt
-tells_by false false false true = (refl, refl)
-tells_by false false false false = (refl, refl)
+tells_by : (offset ud2 straight : Bool) → Tells (if offset then Offset else if ud2 then Stop else if straight then Straight else Turn) straight offset ud2
+tells_by true ud2 straight = tt
+tells_by false true straight = tt
+tells_by false false true = (refl, refl)
+tells_by false false false = (refl, refl)
 
 -- a no-op is straight
 nop_tells : (op : Op) → is_nop op ≡ true → (is_straight_op op ≡ true) × (has_stack_offset op ≡ false)
@@ -53,7 +52,7 @@ nop_tells op is = absurd (false≢true is)
 
 tells_all : (insn : Insn) (short : Bool) → is_short_nop insn ≡ short → Tells (if short then Idle else course_of_op insn.op) (is_straight_op insn.op) (has_stack_offset insn.op) (is_ud2 insn.op)
 tells_all insn true is = nop_tells insn.op (second_so (insn.len == 1) (is_nop insn.op) is)
-tells_all insn false is = tells_by (is_room insn.op) (has_stack_offset insn.op) (is_ud2 insn.op) (is_straight_op insn.op)
+tells_all insn false is = tells_by (has_stack_offset insn.op) (is_ud2 insn.op) (is_straight_op insn.op)
 
 tells : (course : Course) (insn : Insn) → course ≡ course_by insn → Tells course (is_straight_op insn.op) (has_stack_offset insn.op) (is_ud2 insn.op)
 tells course insn is =
@@ -100,7 +99,6 @@ kind_followed o n Idle kind is none plain next here ends_there told =
 kind_followed o n Turn kind is none plain next here ends_there told =
     let turns : (is_straight_op (decoded_insn o (point_at o n)).op ≡ false) × (is_ud2 (decoded_insn o (point_at o n)).op ≡ false) = tells Turn (decoded_insn o (point_at o n)) is in
     told ∙ followed_untold o n (told_places_of o) (record { same = λ place. refl }) turns.1 here ends_there none false next (turning_insn o n turns.0)
-kind_followed o n Room kind is none plain next here ends_there told = absurd told
 kind_followed o n Offset kind is none plain next here ends_there told = absurd told
 kind_followed o n Stop kind is none plain next here ends_there told = absurd told
 

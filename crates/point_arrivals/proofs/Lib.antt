@@ -9,7 +9,6 @@ pub mod KindOf
 mod SamePoints
 mod NopRuns
 mod Remaking
-mod AllRooms
 pub mod Tableless
 pub mod StraightOn
 mod Untold

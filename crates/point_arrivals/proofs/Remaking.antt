@@ -4,7 +4,7 @@ use Rattle.std.proofs.Common.{◌≡◌, Bool, true, false, not, ◌&&◌, if◌
 use Rattle.std.proofs.lemmas.Bool.{false≢true}
 use Rattle.operation_defs.specs.declared.insn.Insn.{Insn}
 use Rattle.operation_defs.specs.declared.op.Op.{Op}
-use Rattle.operation_defs.specs.declared.op.Op.TheVariants.{BpOther, Call, Hop, Iret, IretNext, Jmp, JmpInd, LeaBpRoom, LeaBpSp, SpOther, Switch}
+use Rattle.operation_defs.specs.declared.op.Op.TheVariants.{BpOther, Call, Hop, Iret, IretNext, Jmp, JmpInd, SpOther, Switch}
 use Rattle.operation_defs.specs.Made.{Around, made}
 use Rattle.flow_defs.specs.Coded.{Coded}
 use Rattle.flow_defs.specs.declared.destination.Destination.{Destination}
@@ -17,7 +17,6 @@ use Rattle.point_arrivals.specs.Straight.{is_straight_op}
 -- most stay
 made_same : (a : Around) (op : Op) → may_be_remade op ≡ false → made a op ≡ op
 made_same a (Call rel) is = absurd (false≢true (sym is))
-made_same a (LeaBpSp by) is = absurd (false≢true (sym is))
 made_same a Iret is = absurd (false≢true (sym is))
 made_same a Switch is = absurd (false≢true (sym is))
 made_same a SpOther is = absurd (false≢true (sym is))
@@ -25,12 +24,11 @@ made_same a op is = refl
 
 -- an object may say all of this around an instruction
 abbrev all_is_so : Around
-all_is_so = record { intra_call = true; within = true; hinted = true; makes_room = true; returning = true; loads_stack = true }
+all_is_so = record { intra_call = true; within = true; hinted = true; returning = true; loads_stack = true }
 
 -- of the others something else is made there
 made_other : (op : Op) → may_be_remade op ≡ true → ((a : Around) → made a op ≡ op) → ⊥
 made_other (Call rel) is same = let e : Jmp rel true ≡ Call rel = same all_is_so in cc
-made_other (LeaBpSp by) is same = let e : LeaBpRoom by ≡ LeaBpSp by = same all_is_so in cc
 made_other Iret is same = let e : IretNext ≡ Iret = same all_is_so in cc
 made_other Switch is same = let e : SpOther ≡ Switch = same all_is_so in cc
 made_other SpOther is same = let e : BpOther ≡ SpOther = same all_is_so in cc
@@ -41,16 +39,16 @@ pub stays_exactly : (op : Op) (remade : Bool) → remade ≡ may_be_remade op �
 stays_exactly op true is = (λ h. absurd (false≢true h), λ same. absurd (made_other op (sym is) same))
 stays_exactly op false is = (λ h a. made_same a op (sym is), λ same. refl)
 
-insn_by : (o : Coded) (p : Point) (insn : Insn) (op : Op) → insn ≡ decoded_insn o p → op ≡ made (around o p) insn.op → (let it : Insn = record { len = insn.len; op = op } in it) ≡ insn_of_object o p
+insn_by : (o : Coded) (p : Point) (insn : Insn) (op : Op) → insn ≡ decoded_insn o p → op ≡ made (around o p) insn.op → (let it : Insn = record { len = insn.len; op = op; writes = insn.writes } in it) ≡ insn_of_object o p
 unfolding insn_of_object
 insn_by o p insn op decoded is =
-    ap (λ (x : Op). let it : Insn = record { len = insn.len; op = x } in it) is
-    ∙ ap (λ (i : Insn). let it : Insn = record { len = i.len; op = made (around o p) i.op } in it) decoded
+    ap (λ (x : Op). let it : Insn = record { len = insn.len; op = x; writes = insn.writes } in it) is
+    ∙ ap (λ (i : Insn). let it : Insn = record { len = i.len; op = made (around o p) i.op; writes = i.writes } in it) decoded
 
 pub same_insn : (o : Coded) (p : Point) (insn : Insn) → insn ≡ decoded_insn o p → may_be_remade insn.op ≡ false → insn ≡ insn_of_object o p
 same_insn o p insn decoded other = insn_by o p insn insn.op decoded (sym (made_same (around o p) insn.op other))
 
-pub remade_insn : (o : Coded) (p : Point) (insn : Insn) (op : Op) → insn ≡ decoded_insn o p → op ≡ made (around o p) insn.op → (let it : Insn = record { len = insn.len; op = op } in it) ≡ insn_of_object o p
+pub remade_insn : (o : Coded) (p : Point) (insn : Insn) (op : Op) → insn ≡ decoded_insn o p → op ≡ made (around o p) insn.op → (let it : Insn = record { len = insn.len; op = op; writes = insn.writes } in it) ≡ insn_of_object o p
 remade_insn = insn_by
 
 -- what is so of an operation of the program, by the one that is decoded
@@ -69,11 +67,6 @@ made_offset a (Call rel) = by a.returning a.intra_call
 made_offset a SpOther = by a.loads_stack
   where
     by : (b : Bool) → has_stack_offset (if b then BpOther else SpOther) ≡ false
-    by true = refl
-    by false = refl
-made_offset a (LeaBpSp k) = by a.makes_room
-  where
-    by : (b : Bool) → has_stack_offset (if b then LeaBpRoom k else LeaBpSp k) ≡ true
     by true = refl
     by false = refl
 made_offset a Iret = by a.within
@@ -96,11 +89,6 @@ made_straight a Switch h = absurd (false≢true h)
 made_straight a SpOther h = by a.loads_stack
   where
     by : (b : Bool) → is_straight_op (if b then BpOther else SpOther) ≡ true
-    by true = refl
-    by false = refl
-made_straight a (LeaBpSp k) h = by a.makes_room
-  where
-    by : (b : Bool) → is_straight_op (if b then LeaBpRoom k else LeaBpSp k) ≡ true
     by true = refl
     by false = refl
 made_straight a op h = h

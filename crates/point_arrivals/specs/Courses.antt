@@ -1,20 +1,19 @@
--- What decoded operations alone tell of where control goes on from instructions, and whether room is made there.
+-- What decoded operations alone tell of where control goes on from instructions.
 use Rattle.std.specs.Prelude.{◌≡◌, ◌<◌, ℕ, Bool, true, false, List, Option, Some, if◌then◌else◌, length, option_and_then, slice_get}
 use Rattle.operation_defs.specs.declared.op.Op.{Op}
 use Rattle.operation_defs.specs.declared.insn.Insn.{Insn}
 use Rattle.flow_defs.specs.Coded.{Coded}
-use Rattle.flow_defs.specs.Arrival.{decoded_insn, is_room, is_short_nop, is_ud2}
+use Rattle.flow_defs.specs.Arrival.{decoded_insn, is_short_nop, is_ud2}
 use Rattle.flow_defs.specs.Code.{point_at, points_of_object}
 use Rattle.flow_defs.specs.Marks.{has_stack_offset}
 use Rattle.point_arrivals.specs.Straight.{is_straight_op}
 use Rattle.point_arrivals.specs.declared.course.Course.{Course}
-use Rattle.point_arrivals.specs.declared.course.Course.TheVariants.{Straight, Idle, Turn, Room, Offset, Stop}
+use Rattle.point_arrivals.specs.declared.course.Course.TheVariants.{Straight, Idle, Turn, Offset, Stop}
 use Rattle.point_arrivals.specs.declared.course.InsnCourse.{InsnCourse}
 
 abbrev pub course_of_op : Op → Course
 course_of_op op =
-    if is_room op then Room
-    else if has_stack_offset op then Offset
+    if has_stack_offset op then Offset
     else if is_ud2 op then Stop
     else if is_straight_op op then Straight
     else Turn
@@ -22,10 +21,6 @@ course_of_op op =
 abbrev pub is_idle_course : Course → Bool
 is_idle_course Idle = true
 is_idle_course _ = false
-
-abbrev pub is_room_course : Course → Bool
-is_room_course Room = true
-is_room_course _ = false
 
 -- a no-op of one byte may begin a run of them
 abbrev pub course_by : Insn → Course

@@ -10,7 +10,6 @@ use Rattle.symbols_relocs.specs.declared.returning.NamedStart.{NamedStart}
 use Rattle.symbols_relocs.specs.CodeNames.{first_symbol_at}
 use Rattle.symbols_relocs.specs.NamedCode.{returning_at}
 use Rattle.object_points.specs.Places.{HaveSamePlaces, HaveSameTargets}
-use Rattle.point_arrivals.specs.Remade.{AreRooms}
 
 -- where the originals of alternatives begin
 abbrev pub original_places_of : List AltEntry → List Place
@@ -42,13 +41,12 @@ told_places_of o =
 abbrev pub TellReturning : Coded → List NamedStart → Type 0
 TellReturning o starts = (place : Place) → first_symbol_at starts place ≡ returning_at o.elf place
 
--- the places of originals; those behind which code is reachable, and isn't; those of calls within a function; where static
--- branches lead, and exception entries; and the owners that make room
-pub record AreListsOf (o : Coded) (originals reachable unreachable intra_calls : List Place) (branches fixes : List (Place × Place)) (rooms : List ℕ) : Type 0 where
+-- the places of originals; those behind which code is reachable, and isn't; those of calls within a function; and where static
+-- branches lead, and exception entries
+pub record AreListsOf (o : Coded) (originals reachable unreachable intra_calls : List Place) (branches fixes : List (Place × Place)) : Type 0 where
   pub original_places : HaveSamePlaces (original_places_of (special_of o.elf).alternatives) originals
   pub reachable_places : HaveSamePlaces (special_of o.elf).after_reachable reachable
   pub unreachable_places : HaveSamePlaces (special_of o.elf).after_unreachable unreachable
   pub intra_call_places : HaveSamePlaces (special_of o.elf).intra_calls intra_calls
   pub branch_targets : HaveSameTargets (branch_pairs_of (special_of o.elf).branches) branches
   pub fix_targets : HaveSameTargets (fix_pairs_of (special_of o.elf).fixes) fixes
-  pub all_rooms : AreRooms o rooms

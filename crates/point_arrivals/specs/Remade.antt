@@ -1,12 +1,12 @@
--- Of which operations a program may make others, and which owners make room.
+-- Of which operations a program may make others, by what its object says around them.
 use Rattle.std.specs.Prelude.{◌≡◌, ℕ, Bool, true, false, List, Option, Some, None, if◌then◌else◌}
 use Rattle.std.specs.List.{list_all}
 use Rattle.operation_defs.specs.declared.op.Op.{Op}
-use Rattle.operation_defs.specs.declared.op.Op.TheVariants.{Call, Iret, Jmp, JmpInd, LeaBpSp, SpOther, Switch}
+use Rattle.operation_defs.specs.declared.op.Op.TheVariants.{Call, Iret, Jmp, JmpInd, SpOther, Switch}
 use Rattle.flow_defs.specs.Coded.{Coded}
 use Rattle.flow_defs.specs.declared.destination.Destination.{Destination}
 use Rattle.flow_defs.specs.declared.destination.Destination.TheVariants.{ToIndirectThunk}
-use Rattle.flow_defs.specs.Arrival.{decoded_insn, hint_of, is_room, makes_room, tells_frame}
+use Rattle.flow_defs.specs.Arrival.{decoded_insn, hint_of, tells_frame}
 use Rattle.flow_defs.specs.Code.{point_at}
 use Rattle.flow_defs.specs.Owners.{owner_of_point}
 use Rattle.object_points.specs.Unchecked.{AreAscending, is_among}
@@ -14,7 +14,6 @@ use Rattle.object_points.specs.Unchecked.{AreAscending, is_among}
 -- a decoded operation that a program may make another of
 abbrev pub may_be_remade : Op → Bool
 may_be_remade (Call rel) = true
-may_be_remade (LeaBpSp by) = true
 may_be_remade Iret = true
 may_be_remade Switch = true
 may_be_remade SpOther = true
@@ -40,12 +39,3 @@ may_go_by_table _ to = false
 -- hints tell the stack at all these points
 abbrev pub are_hinted : Coded → List ℕ → Bool
 are_hinted o numbers = list_all (λ q. tells_frame (hint_of o (point_at o q))) numbers
-
--- the owner of the point with a number, where that makes room
-abbrev pub room_owner : Coded → ℕ → Option ℕ
-room_owner o n = let p = point_at o n in if is_room (decoded_insn o p).op then owner_of_point o p else None
-
--- the owners that make room, ascending, some of them more than once
-pub record AreRooms (o : Coded) (owners : List ℕ) : Type 0 where
-  pub ascending : AreAscending owners
-  pub all : (owner : ℕ) → is_among owners owner ≡ makes_room o (Some owner)

@@ -64,7 +64,7 @@ impl<'l, 'o, 'a> PointArrivals<'l, 'o, 'a> {
             kinds: &courses,
             numbers: insns.numbers,
         };
-        let lists = PointLists::build(alloc, places, courses)?;
+        let lists = PointLists::build(alloc, places)?;
         let kinds = list_kinds(alloc, &lists, courses)?;
         Ok(PointArrivals { lists, kinds })
     }
@@ -202,8 +202,9 @@ impl<'l, 'o, 'a> PointArrivals<'l, 'o, 'a> {
     }
 
     /// The instruction of a point: its length, and what the program makes of its decoded operation. A call of code that returns for
-    /// its caller is a `Jmp`; a listed call within a function is a `Hop`; where a function makes room, rbp is set by `LeaBpRoom`; an IRET with its function behind it is an
-    /// `IretNext`; and a way out by the system with its function behind it, where hints tell the stack, an `SpOther`.
+    /// its caller is a `Jmp`; a listed call within a function is a `Hop`; an IRET with its function behind it is an
+    /// `IretNext`; and a way out by the system with its function behind it, where hints tell the stack, an `SpOther`. What copies of
+    /// rsp make of it is told by the edges of all points, and isn't looked at here.
     ///
     /// # Errors
     ///

@@ -1,24 +1,22 @@
 //! The courses of instructions.
 
 ghost use Rattle.std.specs.Prelude.{◌≡◌, map, IfOk};
-ghost use Rattle.point_arrivals.specs.Courses.{course_of_insn, course_of_op, is_idle_course, is_room_course};
+ghost use Rattle.point_arrivals.specs.Courses.{course_of_insn, course_of_op, is_idle_course};
 
 use crate::runs::is_short_nop;
 use operation_defs::{Insn, Op};
 use ot_base::NoMemory;
 use std::alloc::Global;
 
-/// What its decoded operation alone tells of where control goes on from an instruction, and whether room is made there.
+/// What its decoded operation alone tells of where control goes on from an instruction.
 #[derive(Clone, Copy)]
 pub(crate) enum Course {
-    /// Control goes straight on. The operation is none by a number of the stack, and makes no room.
+    /// Control goes straight on. The operation is none by a number of the stack.
     Straight,
     /// The same, and the instruction is a no-op of one byte, which may begin a run of them.
     Idle,
     /// The operation calls, jumps, returns or leaves the code.
     Turn,
-    /// Control goes straight on, and room is made.
-    Room,
     /// Control goes straight on. The operation is one by a number of the stack, which a relocation may change.
     Offset,
     /// The operation is a Ud2.
@@ -41,12 +39,14 @@ impl Course {
             | Op::RetImm
             | Op::Iret
             | Op::Switch => Course::Turn,
-            Op::SubSp | Op::SpReg => Course::Room,
             Op::AddSp { .. }
             | Op::AndSp { .. }
             | Op::LeaSpBp { .. }
             | Op::LeaBpSp { .. }
             | Op::LeaBpRoom { .. }
+            | Op::LeaReg { .. }
+            | Op::LeaSpReg { .. }
+            | Op::LoadReg { .. }
             | Op::StoreBp { .. }
             | Op::LoadBp { .. } => Course::Offset,
             Op::Ud2 => Course::Stop,
@@ -59,13 +59,6 @@ impl Course {
         ensures { result ≡ is_idle_course self }
     {
         matches!(self, Course::Idle)
-    }
-
-    /// Whether room is made.
-    pub(crate) fn is_room(self) -> bool
-        ensures { result ≡ is_room_course self }
-    {
-        matches!(self, Course::Room)
     }
 }
 

@@ -19,7 +19,6 @@ mod pairs;
 mod relocated;
 mod remade;
 mod returning;
-mod rooms;
 mod runs;
 mod straight;
 mod told;

@@ -7,7 +7,6 @@ ghost use Rattle.symbols_relocs.specs.NamedCode.{returning_at as returning_symbo
 ghost use Rattle.flow_defs.specs.Code.{point_at, points_of_object};
 ghost use Rattle.flow_defs.specs.Edges.{fixups as fixups_of, is_some_place, static_targets as static_targets_of};
 ghost use Rattle.object_points.specs.Places.{HaveSamePlaces};
-ghost use Rattle.point_arrivals.specs.Courses.{AreCourses};
 ghost use Rattle.point_arrivals.specs.Lists.{AreListsOf, TellReturning, told_places_of};
 ghost use Rattle.point_arrivals.specs.Marks.{is_listed as is_listed_point};
 ghost use Rattle.point_arrivals.specs.Next.{number_alone};
@@ -15,12 +14,10 @@ ghost use Rattle.point_arrivals.specs.Straight.{ends_at_next as ends_at_next_poi
 
 use crate::arrive::{arrive, arrive_alone};
 use crate::behind::{after, end_of, is_at_end};
-use crate::courses::Courses;
 use crate::listed::{ListedPairs, ListedPlaces, list_pairs, list_places};
 use crate::low::points_are_low;
 use crate::remade::insn;
 use crate::returning::is_returning;
-use crate::rooms::{list_rooms, makes_room};
 use crate::straight::ends_at_next;
 use crate::told::told_places;
 use object_points::{PlaceMap, PlaceSet, PointPlaces};
@@ -41,8 +38,6 @@ pub(crate) struct PointLists<'l, 'o, 'a> {
     intra_calls: PlaceSet,
     branches: PlaceMap,
     fixes: PlaceMap,
-    /// The owners that make room, ascending.
-    rooms: Vec<u32>,
     /// Where code begins that returns for its caller.
     returning: ReturningCode,
 }
@@ -56,34 +51,29 @@ impl<'l, 'o, 'a> Model for PointLists<'l, 'o, 'a> {
 
     ghost view = { λ a. a.places };
 
-    ghost invariant = { λ a. AreLow a.places × AreListsOf a.places a.originals a.reachable a.unreachable a.intra_calls a.branches a.fixes a.rooms.items × TellReturning a.places a.returning };
+    ghost invariant = { λ a. AreLow a.places × AreListsOf a.places a.originals a.reachable a.unreachable a.intra_calls a.branches a.fixes × TellReturning a.places a.returning };
 }
 
-/// All lists of places of an object, the owners that make room, and where code begins that returns for its caller.
+/// All lists of places of an object, and where code begins that returns for its caller.
 #[derive(Drop)]
 struct Listed {
     places: ListedPlaces,
     pairs: ListedPairs,
-    /// The owners that make room, ascending.
-    rooms: Vec<u32>,
     returning: ReturningCode,
 }
 
-/// All lists of places of an object, the owners that make room, and where code begins that returns for its caller.
+/// All lists of places of an object, and where code begins that returns for its caller.
 fn list_all(
     alloc: Global,
     places: &PointPlaces<'_, '_, '_>,
-    courses: Courses<'_>,
 ) -> Result<Listed, NoMemory>
-    requires { AreCourses places.now courses.kinds.now courses.numbers.now }
-    ensures lists { IfOk result (λ l. AreListsOf places.now l.places.originals l.places.reachable l.places.unreachable l.places.intra_calls l.pairs.branches l.pairs.fixes l.rooms.items) }
+    ensures lists { IfOk result (λ l. AreListsOf places.now l.places.originals l.places.reachable l.places.unreachable l.places.intra_calls l.pairs.branches l.pairs.fixes) }
     ensures returning { IfOk result (λ l. TellReturning places.now l.returning) }
 {
     let special = places.linked().special();
     Ok(Listed {
         places: list_places(alloc, special)?,
         pairs: list_pairs(alloc, special)?,
-        rooms: list_rooms(alloc, places, courses)?,
         returning: ReturningCode::build(alloc, places.linked().index().object())?,
     })
 }
@@ -93,9 +83,7 @@ impl<'l, 'o, 'a> PointLists<'l, 'o, 'a> {
     pub(crate) fn build(
         alloc: Global,
         places: PointPlaces<'l, 'o, 'a>,
-        courses: Courses<'_>,
     ) -> Result<PointLists<'l, 'o, 'a>, NoMemory>
-        requires { AreCourses places courses.kinds.now courses.numbers.now }
         ensures { IfOk result (λ lists. lists ≡ places.entry) }
     {
         points_are_low(places.linked());
@@ -107,9 +95,8 @@ impl<'l, 'o, 'a> PointLists<'l, 'o, 'a> {
                 intra_calls,
             },
             pairs: ListedPairs { branches, fixes },
-            rooms,
             returning,
-        } = list_all(alloc, &places, courses)?;
+        } = list_all(alloc, &places)?;
         Ok(PointLists {
             places,
             originals,
@@ -118,7 +105,6 @@ impl<'l, 'o, 'a> PointLists<'l, 'o, 'a> {
             intra_calls,
             branches,
             fixes,
-            rooms,
             returning,
         })
     }
@@ -238,14 +224,6 @@ impl<'l, 'o, 'a> PointLists<'l, 'o, 'a> {
         ensures { result ≡ (around self.now (point_at self.now n)).returning }
     {
         is_returning(&self.places, &self.returning, n)
-    }
-
-    /// Whether what owns a point makes room at one of its points. Code of no function makes none.
-    pub(crate) fn makes_room(&self, n: u32) -> bool
-        requires { n < length (points_of_object self.now) }
-        ensures { result ≡ (around self.now (point_at self.now n)).makes_room }
-    {
-        makes_room(&self.places, &self.rooms, n)
     }
 
     /// Where the static branches at a point lead, in the order of `__jump_table`; nowhere from padding.

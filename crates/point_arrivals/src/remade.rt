@@ -24,12 +24,12 @@ fn may_be_remade(op: Op) -> bool
 {
     matches!(
         op,
-        Op::Call { .. } | Op::LeaBpSp { .. } | Op::Iret | Op::Switch | Op::SpOther
+        Op::Call { .. } | Op::Iret | Op::Switch | Op::SpOther
     )
 }
 
 /// Whether an operation stays as it is decoded: a program makes no other one of it, whatever its object says around it. Then its
-/// instruction is the same in the program, wherever it stands.
+/// instruction is the same in the program, wherever it stands, before copies of rsp are looked at.
 pub fn stays_decoded(op: Op) -> bool
     ensures exact { IsTrue result ↔ ((a : Around) → made_of a op ≡ op) }
     ensures stays { IsTrue result → (o : Coded) (p : Point) → (decoded_insn o p).op ≡ op → insn_of_object o p ≡ decoded_insn o p }
@@ -134,7 +134,6 @@ fn made(alloc: Global, lists: &PointLists<'_, '_, '_>, n: u32, op: Op) -> Result
 {
     match op {
         Op::Call { rel } => Ok(made_call(lists, n, rel)),
-        Op::LeaBpSp { by } => Ok(either(lists.makes_room(n), Op::LeaBpRoom { by }, op)),
         Op::Iret => Ok(either(is_within(alloc, lists, n)?, Op::IretNext, op)),
         Op::Switch => Ok(either(comes_back(alloc, lists, n)?, Op::SpOther, op)),
         _ => Ok(op),
