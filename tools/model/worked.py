@@ -308,7 +308,8 @@ WORKED = [
     ("an interrupt's registers", hints_of(ALL_REGISTERS, (0, hint(3, 0, 5, 1)), functions=False), {}, ALL_REGISTERS_ROWS),
     ("the iret's words popped", hints_of("535BC35848CF", (3, hint(4, 0, 5, 1)), functions=False), {}, warned(".text+0x3: rule 11: saved slot dropped")),
     ("an iret in a function", code_in_f("48CF"), {}, warned(f".text+0x0: rule 15: {RULE_15}")),
-    ("a signal that is missing", hints_of("48CF", (0, hint(4))), {}, refused("section 2: entry 0: HintSignal")),
+    ("a breakpoint's return", hints_of("48CF", (0, hint(4))), {}, rows(x0="000000000504", x2=Z)),
+    ("a signal that is none", hints_of("48CF", (0, hint(4, signal=2))), {}, refused("section 2: entry 0: HintSignal")),
     ("SAVEs in two variants", two_saves(), {}, ACCEPTED),
     (
         "a RESTORE in a site",
