@@ -31,7 +31,7 @@ use Rattle.flow_defs.specs.Edges.{goes}
 use Rattle.flow_defs.specs.Marks.{marks_of}
 use Rattle.flow_defs.specs.Hints.{hint_of, own_hint_of, save_of}
 use Rattle.flow_defs.specs.Returning.{returns_at_last}
-use Rattle.machine_defs.specs.Copies.{insn_with_copies, is_held}
+use Rattle.machine_defs.specs.Copies.{with_copies}
 
 -- the plain points at the starts of functions that are neither parts nor unchecked
 abbrev pub is_entry_point : Coded → Point → Bool
@@ -136,8 +136,10 @@ returning_graph o lists = let g = graph_of o lists in record g { may_return = re
 abbrev pub comes_back : Coded → NameLists → ℕ → Bool
 comes_back o lists q = target_may_return (returning_graph o lists) q
 
+-- the same, with what is wrong with where points go: the program of an object before copies of rsp are looked at
+unfoldable pub uncopied_program : Coded → NameLists → Program
+uncopied_program o lists = record (returning_graph o lists) { marks = λ q. marks_of o (point_at o q) (comes_back o lists q) }
+
 -- the program of an object, under lists of names
 unfoldable pub program_of : Coded → NameLists → Program
-program_of o lists =
-    let g = returning_graph o lists in
-    record g { insn = insn_with_copies g; held = is_held g; marks = λ q. marks_of o (point_at o q) (comes_back o lists q) }
+program_of o lists = with_copies (uncopied_program o lists)

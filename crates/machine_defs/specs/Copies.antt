@@ -152,3 +152,7 @@ copying_at p q = record {
 -- the instruction of a point, with what copies of rsp make of it
 unfoldable pub insn_with_copies : Program → ℕ → Insn
 insn_with_copies p q = record (p.insn q) { op = made_by_copies (copying_at p q) (p.insn q).op }
+
+-- a program, with what copies of rsp make of its operations, and the registers that are held at its points
+abbrev pub with_copies : Program → Program
+with_copies p = record p { insn = insn_with_copies p; held = is_held p }
