@@ -10,7 +10,7 @@ use Rattle.operation_defs.specs.declared.op.Op.TheVariants.{Plain}
 use Rattle.x86_text.specs.InsnLists.{kind_of, insns_numbered, AreNumbered, AreNumbers}
 
 abbrev any_insn : Insn
-any_insn = record { len = 0; op = Plain }
+any_insn = record { len = 0; op = Plain; writes = 0 }
 
 -- none of those that are told by numbers changes its own
 abbrev pub AreKept : List Insn → List Insn → Type 0

@@ -64,7 +64,7 @@ listing_is_code body code listing b bd =
     (s.p.insn, subst (λ o. StandsInFront body.map (drop o body.bytes) s.p.insn) s.at placed.stands)
 
 nothing : PlacedInsn
-nothing = record { off = 0; insn = record { len = 0; op = Plain } }
+nothing = record { off = 0; insn = record { len = 0; op = Plain; writes = 0 } }
 
 -- the listed offsets are the boundaries
 pub boundaries_listed : (body : Body) (code : List PlacedInsn) → IsListing body code → (off : ℕ) → IsBoundary body off ↔ Contains (map (λ p. p.off) code) off

@@ -22,7 +22,7 @@ pub record IsNumbered (body : Body) (i off : ℕ) : Type 0 where
 -- its offset is the kept one with that number
 pub its_number : (kept body : Body) (offsets : List ℕ) (jumps : List PlacedInsn) (i off : ℕ) → IsKept kept offsets jumps → kept ≡ body → i < length (code_of body) → off ≡ get_or offsets i off → IsNumbered kept i off
 its_number kept body offsets jumps i off is same inside offset =
-    let d : PlacedInsn = record { off = 0; insn = record { len = 0; op = Plain } } in
+    let d : PlacedInsn = record { off = 0; insn = record { len = 0; op = Plain; writes = 0 } } in
     let within : i < length (code_of kept) = subst (λ (b : Body). i < length (code_of b)) (sym same) inside in
     record {
       p = get_or (code_of kept) i d;

@@ -93,7 +93,7 @@ begins offsets code same k d e inside = ap (λ (os : List ℕ). get_or os k d) s
 module _ (offsets : List ℕ) (code : List PlacedInsn) (same : offsets ≡ map (λ p. p.off) code) where
   pub offsets_ascend : IsNonDecreasingBy (λ (p : PlacedInsn). p.off) code → IsNonDecreasingBy (λ (o : ℕ). o) offsets
   offsets_ascend ascending i j d order inside =
-      let e : PlacedInsn = record { off = 0; insn = record { len = 0; op = Plain } } in
+      let e : PlacedInsn = record { off = 0; insn = record { len = 0; op = Plain; writes = 0 } } in
       let within : j < length code = omega (arith, as_many offsets code same) in
       let rises : (get_or code i e).off ≤ (get_or code j e).off = ascending i j e order within in
       omega (arith, begins offsets code same i d e (omega arith), begins offsets code same j d e within)
@@ -155,7 +155,7 @@ module _ (body : Body) (off : ℕ) (listing : IsListing body (code_of body)) whe
       subst (IsBoundary body) at.at at.holds.boundary
   tells_boundary false none = λ boundary.
       let at = listed_at body (code_of body) off listing boundary in
-      let d : PlacedInsn = record { off = 0; insn = record { len = 0; op = Plain } } in
+      let d : PlacedInsn = record { off = 0; insn = record { len = 0; op = Plain; writes = 0 } } in
       let differ = none ∙ some_listed (code_of body) off at.0 d at.1.0 (at.1.1 d) in
       grind (arith, differ)
 
@@ -172,7 +172,7 @@ module _ (body : Body) (off : ℕ) (listing : IsListing body (code_of body)) whe
     -- the first that isn't below an offset tells whether one begins there
     pub begins_here : n < length offsets → eqb (get_or offsets n 0) off ≡ is_some (insn_listed (code_of body) off)
     begins_here inside =
-        let d : PlacedInsn = record { off = 0; insn = record { len = 0; op = Plain } } in
+        let d : PlacedInsn = record { off = 0; insn = record { len = 0; op = Plain; writes = 0 } } in
         let there : n < length (code_of body) = omega (arith, as_many offsets (code_of body) same) in
         elim (eqb_tells (get_or offsets n 0) off) [
           | inl (h, equal) ↦ h ∙ sym (some_listed (code_of body) off n d there (sym (begins offsets (code_of body) same n 0 d there) ∙ equal))

@@ -7,7 +7,7 @@ use Rattle.x86_text.specs.Known.{AreSpellings}
 
 -- the one with this number among these; where there is none, any
 abbrev pub kind_of : List Insn → ℕ → Insn
-kind_of kinds n = slice_index_or kinds n (record { len = 0; op = Plain })
+kind_of kinds n = slice_index_or kinds n (record { len = 0; op = Plain; writes = 0 })
 
 -- the instructions that are told by these numbers
 abbrev pub insns_numbered : List Insn → List ℕ → List Insn

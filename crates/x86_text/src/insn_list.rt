@@ -11,7 +11,7 @@ ghost use Rattle.x86_text.specs.Refused.{IsTextFault};
 use crate::fault::TextFault;
 use crate::known::{Found, Known, place_among};
 use crate::numbered::NumberedInsns;
-use operation_defs::{Insn, Op};
+use operation_defs::{DrapRegister, Insn, Op};
 use ot_base::NoMemory;
 use std::alloc::Global;
 use std::marker::Model;
@@ -22,6 +22,12 @@ const BARE: usize = 24;
 
 /// How many hashes there are of instructions whose operations have no number, and as many of others.
 const HALF: usize = 512;
+
+/// How many first registers an instruction may write, with none as one.
+const WRITTEN: usize = 17;
+
+/// How many places there are for instructions whose operations have no number.
+const OWN: usize = BARE * 16 * WRITTEN;
 
 /// How many places there are at most for instructions whose operations have a number.
 const NUMBERED: usize = 8_192;
@@ -63,7 +69,7 @@ impl InsnList {
         Ok(InsnList {
             kinds: Vec::new(alloc),
             numbers: Vec::new(alloc),
-            recent: vec![in alloc; 0; 2 * HALF]?,
+            recent: vec![in alloc; 0; OWN + HALF]?,
             known: Known::none(alloc, Map::Base),
         })
     }
@@ -202,7 +208,7 @@ impl InsnList {
 
 /// Makes places for the instructions of a body of so many bytes, if there are fewer. What was noted is forgotten then.
 fn make_places(alloc: Global, recent: &mut Vec<u32>, size: usize) -> Result<(), NoMemory> {
-    let places = HALF + (size / 16).min(NUMBERED);
+    let places = OWN + (size / 16).min(NUMBERED);
     if recent.len() < places {
         *recent = vec![in alloc; 0; places]?;
     }
@@ -252,8 +258,8 @@ fn has_number(kinds: &[Insn], number: u32, insn: Insn) -> bool
     }
 }
 
-/// A hash of an instruction, below 1,024. It is the instruction's alone, where its operation has no number and it has at most 15
-/// bytes. No contract says so.
+/// A hash of an instruction's operation and length, below 1,024. It is theirs alone, where the operation has no number and the
+/// instruction has at most 15 bytes. No contract says so.
 pub fn hash_of(insn: Insn) -> usize {
     let shape = shape_of(insn);
     if variant_of(insn.op) < BARE {
@@ -272,25 +278,41 @@ fn shape_of(insn: Insn) -> usize {
         .wrapping_add(insn.len as usize % 16)
 }
 
-/// The place of an instruction among so many. Those whose operations have no number come first. No contract says so.
+/// The place of an instruction among so many. Those whose operations have no number come first, each by its operation, its length
+/// and the first register that it writes. No contract says so.
 fn place_of(places: usize, insn: Insn) -> usize {
     let shape = shape_of(insn);
     if variant_of(insn.op) < BARE {
-        return shape;
+        let first_written = insn.writes.trailing_zeros() as usize;
+        return shape.wrapping_mul(WRITTEN).wrapping_add(first_written);
     }
     let number = number_in(insn.op).wrapping_add(shape as u64);
-    HALF.wrapping_add(place_among(places.saturating_sub(HALF), number))
+    OWN.wrapping_add(place_among(places.saturating_sub(OWN), number))
 }
 
-/// The number that an operation has.
+/// The number that an operation has. A register and an offset are mixed.
 fn number_in(op: Op) -> u64 {
     match op {
+        Op::RegOther { r10, r13 } => u64::from(r10) + 2 * u64::from(r13),
+        Op::PushReg { reg } => drap_number(reg),
+        Op::PopReg { reg } => drap_number(reg),
+        Op::SpReg { reg } => u64::from(reg),
+        Op::BackSp { reg } => u64::from(reg),
+        Op::StoreSp { reg } => u64::from(reg),
+        Op::CellSp { reg } => u64::from(reg),
+        Op::CopyBp { reg } => u64::from(reg),
         Op::AddSp { by } => by.cast_unsigned(),
         Op::AndSp { mask } => mask.cast_unsigned(),
+        Op::AndDrap { reg, mask } => mixed(drap_number(reg), mask),
         Op::LeaSpBp { by } => by.cast_unsigned(),
         Op::LeaBpSp { by } => by.cast_unsigned(),
         Op::LeaBpRoom { by } => by.cast_unsigned(),
+        Op::LeaReg { reg, by } => mixed(u64::from(reg), by),
+        Op::Keep { reg, by } => mixed(u64::from(reg), by),
+        Op::LeaSpReg { reg, by } => mixed(drap_number(reg), by),
+        Op::LoadReg { reg, at } => mixed(drap_number(reg), at),
         Op::StoreBp { at } => at.cast_unsigned(),
+        Op::StoreThrough { reg, at } => mixed(u64::from(reg), at),
         Op::LoadBp { at } => at.cast_unsigned(),
         Op::Call { rel } => i64::from(rel).cast_unsigned(),
         Op::Jmp { rel, .. } => i64::from(rel).cast_unsigned(),
@@ -298,6 +320,20 @@ fn number_in(op: Op) -> u64 {
         Op::JmpInd { table } => u64::from(table.unwrap_or(0)),
         _ => 0,
     }
+}
+
+fn drap_number(reg: DrapRegister) -> u64 {
+    match reg {
+        DrapRegister::R10 => 10,
+        DrapRegister::R13 => 13,
+    }
+}
+
+fn mixed(register: u64, offset: i64) -> u64 {
+    offset
+        .cast_unsigned()
+        .wrapping_mul(16)
+        .wrapping_add(register)
 }
 
 /// A number for the variant of an operation: those that have no number come first.
@@ -326,17 +362,31 @@ fn variant_of(op: Op) -> usize {
         Op::Clac => 20,
         Op::Hop => 21,
         Op::SubSp => 22,
-        Op::SpReg => 23,
-        Op::AddSp { .. } => 24,
-        Op::AndSp { .. } => 25,
-        Op::LeaSpBp { .. } => 26,
-        Op::LeaBpSp { .. } => 27,
-        Op::LeaBpRoom { .. } => 28,
-        Op::StoreBp { .. } => 29,
-        Op::LoadBp { .. } => 30,
-        Op::Call { .. } => 31,
-        Op::Jmp { .. } => 32,
-        Op::Jcc { .. } => 33,
-        Op::JmpInd { .. } => 34,
+        Op::PopSp => 23,
+        Op::RegOther { .. } => 24,
+        Op::PushReg { .. } => 25,
+        Op::PopReg { .. } => 26,
+        Op::SpReg { .. } => 27,
+        Op::BackSp { .. } => 28,
+        Op::StoreSp { .. } => 29,
+        Op::CellSp { .. } => 30,
+        Op::CopyBp { .. } => 31,
+        Op::AddSp { .. } => 32,
+        Op::AndSp { .. } => 33,
+        Op::AndDrap { .. } => 34,
+        Op::LeaSpBp { .. } => 35,
+        Op::LeaBpSp { .. } => 36,
+        Op::LeaBpRoom { .. } => 37,
+        Op::LeaReg { .. } => 38,
+        Op::Keep { .. } => 39,
+        Op::LeaSpReg { .. } => 40,
+        Op::LoadReg { .. } => 41,
+        Op::StoreBp { .. } => 42,
+        Op::StoreThrough { .. } => 43,
+        Op::LoadBp { .. } => 44,
+        Op::Call { .. } => 45,
+        Op::Jmp { .. } => 46,
+        Op::Jcc { .. } => 47,
+        Op::JmpInd { .. } => 48,
     }
 }

@@ -9,7 +9,7 @@ pub count_to-place-requires : goal.count_to-place-requires
 count_to-place-requires c = offsets_ascend c.as_slice-offsets.result.now (code_of c.args.self.now) (its_offsets _ _ _ _ c.self.invariant c.self.view_is _ c.as_slice-offsets.ensures.value) (its_listing _ _ _ _ c.self.invariant c.self.view_is).ascending
 
 first : PlacedInsn
-first = record { off = 0; insn = record { len = 0; op = Plain } }
+first = record { off = 0; insn = record { len = 0; op = Plain; writes = 0 } }
 
 pub returns-then-place-offsets : goal.returns-then-place-offsets
 returns-then-place-offsets c =

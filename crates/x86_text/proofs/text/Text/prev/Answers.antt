@@ -9,7 +9,7 @@ pub count_below-place-requires : goal.count_below-place-requires
 count_below-place-requires c = offsets_ascend c.as_slice-offsets.result.now (code_of c.args.self.now) (its_offsets _ _ _ _ c.self.invariant c.self.view_is _ c.as_slice-offsets.ensures.value) (its_listing _ _ _ _ c.self.invariant c.self.view_is).ascending
 
 first : PlacedInsn
-first = record { off = 0; insn = record { len = 0; op = Plain } }
+first = record { off = 0; insn = record { len = 0; op = Plain; writes = 0 } }
 
 pub returns-then-place-gt0 : goal.returns-then-place-gt0
 returns-then-place-gt0 c =
