@@ -227,7 +227,7 @@ merged_all old points replaced insns plain others merged none told p r =
     ∙ sym (get_or-map told points k no_point (Some no_insn) inside))
   where
     no_insn : Insn
-    no_insn = record { len = 0; op = Plain }
+    no_insn = record { len = 0; op = Plain; writes = 0 }
 
     long : length (map (λ (i : Insn). Some i) insns) ≡ length (map told points)
     long = length-map insns (λ (i : Insn). Some i) ∙ merged.long ∙ sym (length-map points told)

@@ -26,7 +26,7 @@ is_padded texts a place = nat_lt a.replacement_len a.original_len && (same_place
 
 -- the padding: a Nop over the rest of the original
 abbrev pub padding_of : AltEntry → Insn
-padding_of a = record { len = a.original_len - a.replacement_len; op = Nop }
+padding_of a = record { len = a.original_len - a.replacement_len; op = Nop; writes = 0 }
 
 -- the instruction of a replacement at a place: one that begins in the replacement's bytes, or the padding behind them
 abbrev pub replacement_insn : List SectionText → AltEntry → Place → Option Insn

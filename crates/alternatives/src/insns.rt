@@ -48,7 +48,11 @@ fn replacement_insn(texts: &[SectionText<'_>], entry: &AltEntry, place: Place) -
         return None;
     }
     let len = entry.original_len.saturating_sub(entry.replacement_len);
-    Some(Insn { len, op: Op::Nop })
+    Some(Insn {
+        len,
+        op: Op::Nop,
+        writes: 0,
+    })
 }
 
 /// The instruction of a point.

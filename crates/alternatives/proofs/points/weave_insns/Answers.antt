@@ -10,7 +10,7 @@ use Rattle.alternatives.proofs.Merging.{IsMerged, merged_none, some_plain, merge
 use Rattle.alternatives.proofs.points.weave_insns.Goals as goal
 
 abbrev no_insn : Insn
-no_insn = record { len = 0; op = Plain }
+no_insn = record { len = 0; op = Plain; writes = 0 }
 
 pub loop-others-init : goal.loop-others-init
 loop-others-init c =

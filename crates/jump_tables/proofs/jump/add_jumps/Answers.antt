@@ -13,7 +13,7 @@ use Rattle.jump_tables.proofs.Jumping.{more, no_more, those_of_tables}
 use Rattle.jump_tables.proofs.jump.add_jumps.Goals as goal
 
 abbrev nothing : PlacedInsn
-nothing = record { off = 0; insn = record { len = 0; op = Plain } }
+nothing = record { off = 0; insn = record { len = 0; op = Plain; writes = 0 } }
 
 pub loop-placed-init : goal.loop-placed-init
 loop-placed-init c = sym (append-nil c.args.jumps.now.items)
