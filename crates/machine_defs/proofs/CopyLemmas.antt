@@ -1,5 +1,5 @@
 -- The levels of stale and of wanted registers come to the least sets.
-use Rattle.std.proofs.Common.{◌≡◌, ℕ, zero, suc, ◌<◌, ◌⊎◌, inl, inr, Bool, true, false, not, ◌&&◌, ◌||◌, List, [], ◌∷◌, ◌++◌, refl, sym, arith, subst}
+use Rattle.std.proofs.Common.{◌≡◌, ℕ, zero, suc, ◌<◌, ◌⊎◌, inl, inr, Bool, true, false, not, ◌&&◌, ◌||◌, List, [], ◌∷◌, ◌++◌, filter, cond, refl, sym, ap, ◌∙◌, arith, subst}
 use Rattle.std.specs.Prelude.{Contains}
 use Rattle.std.specs.List.{list_any}
 use Rattle.std.proofs.lemmas.Bool.{and_from, and_parts, or_left, or_right, not_from_false, false≢true}
@@ -7,10 +7,10 @@ use Rattle.std.proofs.lemmas.List.Elements.{Contains-append_left, Contains-appen
 use Rattle.std.proofs.lemmas.List.Folds.{Any-from_list_any, list_any-from_Any}
 use Rattle.machine_defs.specs.Program.{Program, IsPoint, below, is_local, loses}
 use Rattle.machine_defs.specs.Kept.{edges_of, is_free}
-use Rattle.machine_defs.specs.Copies.{LeadsToPoints, Stale, StaleIsLeast, Wanted, WantedIsLeast, goes_on_to, is_stale, is_wanted, sets_from_rsp, stale_behind, stale_within, wanted_within}
+use Rattle.machine_defs.specs.Copies.{LeadsToPoints, Stale, StaleIsLeast, Wanted, WantedIsLeast, goes_on_to, is_stale, is_unknown_at, is_wanted, sets_from_rsp, stale_behind, stale_within, wanted_within}
 use Rattle.machine_defs.proofs.Levels.{Within, closed, on_last, or_true}
 
-in_below : (n q : ℕ) → q < n → Contains (below n) q
+pub in_below : (n q : ℕ) → q < n → Contains (below n) q
 in_below zero q h = absurd (omega arith)
 in_below (suc n) q h = go (grind arith) (λ l. in_below n q l)
   where
@@ -29,12 +29,40 @@ from_below (suc n) q c = (elim (Contains-append_cases (below n) (n ∷ []) q c) 
     only (zero, l, e) = let k : n ≡ q = e in omega arith
     only (suc k, l, e) = absurd (omega (arith, l))
 
-not_true : (x : Bool) → not x ≡ true → x ≡ false
+pub not_true : (x : Bool) → not x ≡ true → x ≡ false
 not_true true e = absurd (false≢true e)
 not_true false e = refl
 
-any_at : {X : Type 0} (f : X → Bool) (xs : List X) (x : X) → Contains xs x → f x ≡ true → list_any f xs ≡ true
+pub any_at : {X : Type 0} (f : X → Bool) (xs : List X) (x : X) → Contains xs x → f x ≡ true → list_any f xs ≡ true
 any_at f xs x c e = list_any-from_Any f xs (c.0, x, c.1, c.2, e)
+
+elements : {X : Type 0} (y : X) (xs : List X) (x : X) → Contains (y ∷ xs) x → (y ≡ x) ⊎ Contains xs x
+elements y xs x (zero, l, e) = inl e
+elements y xs x (suc k, l, e) = inr (k, omega (arith, l), e)
+
+pub from_filter : {X : Type 0} (f : X → Bool) (xs : List X) (x : X) → Contains (filter f xs) x → Contains xs x
+from_filter f [] x c = c
+from_filter f (y ∷ xs) x c = go (λ d. from_filter f xs x d) (f y) refl c
+  where
+    later : Contains xs x → Contains (y ∷ xs) x
+    later d = (suc d.0, omega (arith, d.1), d.2)
+
+    go : (Contains (filter f xs) x → Contains xs x) → (b : Bool) → f y ≡ b → Contains (cond b (y ∷ filter f xs) (filter f xs)) x → Contains (y ∷ xs) x
+    go of_rest true e d = elim (elements y (filter f xs) x d) [
+      | inl same ↦ (0, omega arith, same)
+      | inr rest ↦ later (of_rest rest)
+    ]
+    go of_rest false e d = later (of_rest d)
+
+pub in_filter : {X : Type 0} (f : X → Bool) (xs : List X) (x : X) → Contains xs x → f x ≡ true → Contains (filter f xs) x
+in_filter f [] x c h = c
+in_filter f (y ∷ xs) x c h = go (λ d. in_filter f xs x d h) (f y) refl (elements y xs x c)
+  where
+    go : (Contains xs x → Contains (filter f xs) x) → (b : Bool) → f y ≡ b → (y ≡ x) ⊎ Contains xs x → Contains (cond b (y ∷ filter f xs) (filter f xs)) x
+    go of_rest true e (inl same) = (0, omega arith, same)
+    go of_rest true e (inr rest) = let d = of_rest rest in (suc d.0, omega (arith, d.1), d.2)
+    go of_rest false e (inl same) = absurd (false≢true (sym e ∙ ap f same ∙ h))
+    go of_rest false e (inr rest) = of_rest rest
 
 module _ (p : Program) (r : ℕ) where
   -- stale along the edges from points that a test passes
@@ -147,3 +175,10 @@ stale_is_least p r q here = (λ e. stale_sound p r p.count q e, λ s. stale_comp
 pub wanted_is_least : WantedIsLeast
 unfolding is_wanted
 wanted_is_least p r q leads here = (λ e. wanted_sound p r p.count q e, λ w. wanted_complete p r leads q here w)
+
+-- control that goes on to a point takes along what is stale behind the instruction, and none is known to hold a copy at some points
+pub stale_along : (p : Program) (r a q : ℕ) → IsPoint p a → IsPoint p q → goes_on_to p a q ≡ true → sets_from_rsp (p.insn a).op r ≡ false → (loses (p.insn a) r ≡ true) → is_stale p q r ≡ true
+stale_along p r a q inside here leads unset lost = (stale_is_least p r q here).1 (Stale.lost a q inside leads unset lost)
+
+pub stale_unknown : (p : Program) (r q : ℕ) → IsPoint p q → is_unknown_at p q ≡ true → is_stale p q r ≡ true
+stale_unknown p r q here unknown = (stale_is_least p r q here).1 (Stale.unknown q unknown)

@@ -3,3 +3,4 @@ pub mod EndLemmas
 pub mod Counting
 pub mod Levels
 pub mod CopyLemmas
+pub mod CopiesKeep

@@ -5,12 +5,13 @@ use Rattle.operation_defs.specs.declared.insn.Insn.{Insn}
 use Rattle.operation_defs.specs.declared.op.DrapRegister.{DrapRegister}
 use Rattle.operation_defs.specs.declared.op.DrapRegister.TheVariants.{R10, R13}
 use Rattle.operation_defs.specs.declared.op.Op.{Op}
-use Rattle.operation_defs.specs.declared.op.Op.TheVariants.{AndSp, LeaBpSp, LeaReg, LeaSpBp, SpReg, StoreSp, SubSp}
+use Rattle.operation_defs.specs.declared.op.Op.TheVariants.{AndSp, AndDrap, BackSp, CellSp, CopyBp, Keep, LeaBpRoom, LeaBpSp, LeaReg, LeaSpBp, SpReg, StoreSp, StoreThrough, SubSp}
 use Rattle.operation_defs.specs.Made.{Copying, made_by_copies}
 use Rattle.machine_defs.specs.declared.flow.Edge.{Edge}
 use Rattle.machine_defs.specs.Program.{Program, IsPoint, below, is_local, loses}
 use Rattle.machine_defs.specs.Kept.{edges_of, is_at_entry, is_free}
 use Rattle.machine_defs.specs.Ways.{is_fixup}
+use Rattle.machine_defs.specs.IsProgram.{IsProgram}
 
 -- whether an operation sets a register from rsp; 5 is rbp
 abbrev pub sets_from_rsp : Op → ℕ → Bool
@@ -156,3 +157,21 @@ insn_with_copies p q = record (p.insn q) { op = made_by_copies (copying_at p q) 
 -- a program, with what copies of rsp make of its operations, and the registers that are held at its points
 abbrev pub with_copies : Program → Program
 with_copies p = record p { insn = insn_with_copies p; held = is_held p }
+
+-- A program in which no operation was made by copies of rsp, and no register is held.
+abbrev pub is_uncopied : Op → Bool
+is_uncopied (LeaBpRoom by) = false
+is_uncopied (Keep reg by) = false
+is_uncopied (BackSp reg) = false
+is_uncopied (AndDrap reg mask) = false
+is_uncopied (CellSp reg) = false
+is_uncopied (CopyBp reg) = false
+is_uncopied (StoreThrough reg at) = false
+is_uncopied _ = true
+
+abbrev pub IsUncopied : Program → Type 0
+IsUncopied p = (q : ℕ) → IsPoint p q → is_uncopied (p.insn q).op ≡ true
+
+-- With copies of rsp it is a program as well.
+abbrev pub CopiesKeepPrograms : Type 0
+CopiesKeepPrograms = (p : Program) → IsProgram p → IsUncopied p → IsProgram (with_copies p)

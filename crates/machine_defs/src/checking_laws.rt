@@ -1,6 +1,6 @@
 //! What holds of the definitions of this crate.
 
-ghost use Rattle.machine_defs.specs.Copies.{StaleIsLeast, WantedIsLeast};
+ghost use Rattle.machine_defs.specs.Copies.{CopiesKeepPrograms, StaleIsLeast, WantedIsLeast};
 ghost use Rattle.machine_defs.specs.Kept.{KeptIsOne, KeptStays};
 
 /// A point keeps the state that it was first given.
@@ -18,4 +18,9 @@ pub fn kept_is_one()
 pub fn levels_are_least()
     ensures stale { StaleIsLeast }
     ensures wanted { WantedIsLeast }
+{}
+
+/// A program is one, as the laws ask, with what copies of rsp make of its operations.
+pub fn copies_keep_programs()
+    ensures { CopiesKeepPrograms }
 {}
