@@ -1,5 +1,5 @@
 -- Copies of rsp in registers, over a program's edges: where a register may hold something else, and where it is read as rsp further on.
-use Rattle.std.specs.Prelude.{◌≡◌, ℕ, zero, suc, ◌↔◌, Contains, ◌==◌, ◌&&◌, ◌||◌, not, Bool, true, false, List, [], ◌∷◌, Option, Some, None, if◌then◌else◌}
+use Rattle.std.specs.Prelude.{◌≡◌, ℕ, zero, suc, ◌↔◌, Contains, ◌==◌, ◌&&◌, ◌||◌, not, Bool, true, false, List, [], ◌∷◌, map, filter, Option, Some, None, if◌then◌else◌}
 use Rattle.std.specs.List.{list_any, list_all}
 use Rattle.operation_defs.specs.declared.insn.Insn.{Insn}
 use Rattle.operation_defs.specs.declared.op.DrapRegister.{DrapRegister}
@@ -10,7 +10,7 @@ use Rattle.operation_defs.specs.Made.{Copying, made_by_copies}
 use Rattle.machine_defs.specs.declared.flow.Edge.{Edge}
 use Rattle.machine_defs.specs.Program.{Program, IsPoint, below, is_local, loses}
 use Rattle.machine_defs.specs.Kept.{edges_of, is_at_entry, is_free}
-use Rattle.machine_defs.specs.Ways.{is_fixup}
+use Rattle.machine_defs.specs.Ways.{is_fixup, is_next}
 use Rattle.machine_defs.specs.IsProgram.{IsProgram}
 
 -- whether an operation sets a register from rsp; 5 is rbp
@@ -92,21 +92,25 @@ abbrev pub is_sp_reg : ℕ → Op → Bool
 is_sp_reg r (SpReg reg) = r == reg
 is_sp_reg r _ = false
 
--- there are points after a point, and all of them set rsp to a register
+-- the points to which control goes on behind a point
+abbrev pub next_points : Program → ℕ → List ℕ
+next_points p q = map (λ e. e.to) (filter (λ e. is_next e.kind) (edges_of p q))
+
+-- there are such, and all of them set rsp to a register
 abbrev pub all_go_to : Program → ℕ → List ℕ → Bool
 all_go_to p reg [] = false
-all_go_to p reg (q ∷ after) = list_all (λ r. is_sp_reg reg (p.insn r).op) (q ∷ after)
+all_go_to p reg (q ∷ next) = list_all (λ r. is_sp_reg reg (p.insn r).op) (q ∷ next)
 
 -- rsp is saved at a register to which it goes at once
 abbrev pub saves_in_cell_by : Program → List ℕ → Op → Bool
-saves_in_cell_by p after (StoreSp reg) = all_go_to p reg after
-saves_in_cell_by p after _ = false
+saves_in_cell_by p next (StoreSp reg) = all_go_to p reg next
+saves_in_cell_by p next _ = false
 
 abbrev pub saves_in_cell : Program → ℕ → Bool
-saves_in_cell p q = saves_in_cell_by p (p.after q) (p.insn q).op
+saves_in_cell p q = saves_in_cell_by p (next_points p q) (p.insn q).op
 
 abbrev pub is_behind_cell : Program → ℕ → Bool
-is_behind_cell p q = list_any (λ a. saves_in_cell p a && list_any (λ r. r == q) (p.after a)) (below p.count)
+is_behind_cell p q = list_any (λ a. saves_in_cell p a && list_any (λ r. r == q) (next_points p a)) (below p.count)
 
 -- rsp comes back from a register
 abbrev pub comes_back_by : Program → ℕ → Op → Bool
