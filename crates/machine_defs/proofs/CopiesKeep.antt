@@ -1,5 +1,5 @@
 -- A program is one with copies of rsp as well.
-use Rattle.std.proofs.Common.{◌≡◌, ℕ, ◌+◌, ◌⊎◌, inl, inr, Bool, true, false, not, ◌&&◌, ◌||◌, Option, Some, None, refl, sym, ap, ◌∙◌, subst, if◌then◌else◌, ◌==◌, ℤ}
+use Rattle.std.proofs.Common.{◌≡◌, ℕ, ◌+◌, ◌⊎◌, inl, inr, Bool, true, false, not, ◌&&◌, ◌||◌, Option, Some, None, nat_lt, refl, sym, ap, ◌∙◌, subst, if◌then◌else◌, ◌==◌, ℤ}
 use Rattle.std.specs.Prelude.{Contains}
 use Rattle.std.specs.List.{list_any}
 use Rattle.std.proofs.lemmas.Bool.{and_from, and_parts, or_left, or_right, and_right, eqb-true, eq-eqb, false≢true, true≢false, cases_Bool}
@@ -17,7 +17,7 @@ use Rattle.machine_defs.specs.Kept.{can_go, edges_of, is_at_entry, is_free}
 use Rattle.machine_defs.specs.MayReturn.{MayReturn}
 use Rattle.machine_defs.specs.Ways.{is_fixup}
 use Rattle.machine_defs.specs.IsProgram.{IsCallee, IsProgram}
-use Rattle.machine_defs.specs.Copies.{CopiesKeepPrograms, IsUncopied, copying_at, faults_to, goes_on_to, insn_with_copies, is_held, is_stale, is_uncopied, is_unknown_at, is_wanted, keeps_by, sets_from_rsp, with_copies}
+use Rattle.machine_defs.specs.Copies.{CopiesKeepPrograms, IsUncopied, copying_at, faults_to, goes_on_to, insn_with_copies, is_copy, is_held, is_stale, is_uncopied, is_unknown_at, is_wanted, keeps_by, sets_from_rsp, with_copies}
 use Rattle.ot_base.specs.declared.place.Place.{Place}
 use Rattle.machine_defs.proofs.CopyLemmas.{any_at, from_filter, in_below, in_filter, not_true, stale_along, stale_unknown}
 
@@ -145,7 +145,7 @@ module _ (p : Program) (is : IsProgram p) (uncopied : IsUncopied p) where
   goes_on_along q e listed local = any_at (λ x. (x.to == e.to) && is_local x.kind) (edges_of p q) e listed (and_from (e.to == e.to) (is_local e.kind) (eq-eqb e.to e.to refl) local)
 
   held_fresh : (q r : ℕ) → is_held p q r ≡ true → is_stale p q r ≡ false
-  held_fresh q r held = not_true (is_stale p q r) (and_parts (is_wanted p q r) (not (is_stale p q r)) held).1
+  held_fresh q r held = not_true (is_stale p q r) (and_parts (nat_lt r 16) (not (is_stale p q r)) (and_parts (is_copy p q r) (is_wanted p q r) held).0).1
 
   target : (q : ℕ) (e : Edge) → IsPoint p q → Contains (edges_of p q) e → IsPoint p e.to
   target q e here listed = is.edges q e here (from_filter (λ x. can_go p q x.kind) (p.goes q) e listed)
@@ -202,7 +202,7 @@ module _ (p : Program) (is : IsProgram p) (uncopied : IsUncopied p) where
   from_copies _ (MayReturn.comes_back_in q r entry first e unlisted alive arrives from_first listed from) = MayReturn.comes_back_in q r entry first e unlisted alive arrives (from_copies first from_first) listed (from_copies r from)
 
   unheld : (q r : ℕ) → is_stale p q r ≡ true → is_held p q r ≡ false
-  unheld q r stale = ap (λ (b : Bool). is_wanted p q r && not b) stale ∙ and_right (is_wanted p q r) false refl
+  unheld q r stale = ap (λ (b : Bool). (nat_lt r 16 && not b) && is_wanted p q r) stale ∙ ap (λ (b : Bool). b && is_wanted p q r) (and_right (nat_lt r 16) false refl)
 
   fixup_kind : (k : EdgeKind) → k ≡ Fixup → is_fixup k ≡ true
   fixup_kind k e = ap is_fixup e

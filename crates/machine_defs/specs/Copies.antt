@@ -1,5 +1,5 @@
 -- Copies of rsp in registers, over a program's edges: where a register may hold something else, and where it is read as rsp further on.
-use Rattle.std.specs.Prelude.{◌≡◌, ℕ, zero, suc, ◌↔◌, Contains, ◌==◌, ◌&&◌, ◌||◌, not, Bool, true, false, List, [], ◌∷◌, map, filter, Option, Some, None, if◌then◌else◌}
+use Rattle.std.specs.Prelude.{◌≡◌, ℕ, zero, suc, ◌↔◌, Contains, ◌==◌, ◌&&◌, ◌||◌, not, nat_lt, Bool, true, false, List, [], ◌∷◌, map, filter, Option, Some, None, if◌then◌else◌}
 use Rattle.std.specs.List.{list_any, list_all}
 use Rattle.operation_defs.specs.declared.insn.Insn.{Insn}
 use Rattle.operation_defs.specs.declared.op.DrapRegister.{DrapRegister}
@@ -81,9 +81,13 @@ StaleIsLeast = (p : Program) (r q : ℕ) → IsPoint p q → (is_stale p q r ≡
 abbrev pub WantedIsLeast : Type 0
 WantedIsLeast = (p : Program) (r q : ℕ) → LeadsToPoints p → IsPoint p q → (is_wanted p q r ≡ true) ↔ Wanted p r q
 
--- a register is held at a point: it is wanted there, and a copy of rsp on every way
+-- a general register is a copy of rsp at a point, on every way there
+abbrev pub is_copy : Program → ℕ → ℕ → Bool
+is_copy p q r = nat_lt r 16 && not (is_stale p q r)
+
+-- a register is held at a point: it is wanted there, and a copy
 abbrev pub is_held : Program → ℕ → ℕ → Bool
-is_held p q r = is_wanted p q r && not (is_stale p q r)
+is_held p q r = is_copy p q r && is_wanted p q r
 
 -- What a program makes of its operations by that.
 
@@ -114,13 +118,13 @@ is_behind_cell p q = list_any (λ a. saves_in_cell p a && list_any (λ r. r == q
 
 -- rsp comes back from a register
 abbrev pub comes_back_by : Program → ℕ → Op → Bool
-comes_back_by p q (SpReg reg) = not (is_stale p q reg) && not (is_behind_cell p q)
+comes_back_by p q (SpReg reg) = is_copy p q reg && not (is_behind_cell p q)
 comes_back_by p q _ = false
 
 -- a point makes room: it subtracts a register from rsp, or sets rsp to one that isn't a copy of rsp, and that not behind a cell
 abbrev pub makes_room_by : Program → ℕ → Op → Bool
 makes_room_by p q SubSp = true
-makes_room_by p q (SpReg reg) = is_stale p q reg && not (is_behind_cell p q)
+makes_room_by p q (SpReg reg) = not (is_copy p q reg) && not (is_behind_cell p q)
 makes_room_by p q _ = false
 
 abbrev pub is_owned_by : ℕ → Option ℕ → Bool
@@ -140,7 +144,7 @@ keeps_by p q _ = false
 
 -- r10, else r13, where it is a copy of rsp
 abbrev pub drap_at : Program → ℕ → Option DrapRegister
-drap_at p q = if not (is_stale p q 10) then Some R10 else if not (is_stale p q 13) then Some R13 else None
+drap_at p q = if is_copy p q 10 then Some R10 else if is_copy p q 13 then Some R13 else None
 
 -- what copies of rsp, and other stacks, say of a point
 abbrev pub copying_at : Program → ℕ → Copying
