@@ -57,7 +57,7 @@ is_called o point place = is_entry o.elf place || may_call o point place
 
 -- a hint tells saved registers (REGS, REGS_PARTIAL)
 abbrev pub tells_regs : Option HintState → Bool
-tells_regs (Some (Set (Regs full depth))) = true
+tells_regs (Some (Set (Regs full depth trap))) = true
 tells_regs _ = false
 
 -- The symbol by which a function calls a gate: code of no function, at which a hint tells saved registers. The function pushed
