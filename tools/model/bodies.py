@@ -328,6 +328,22 @@ class Body:
     def run(self, frame: Frame, budget: int) -> None:
         self.world.run_of_nops(self, frame)
 
+    def trap(self, frame: Frame, budget: int) -> None:
+        """A breakpoint."""
+        self.emit(self.rng.choice(("cc", "cc", "f3cc")))
+
+    def copied(self, frame: Frame, budget: int) -> None:
+        self.world.copied(self, frame, budget)
+
+    def other_stack(self, frame: Frame, budget: int) -> None:
+        self.world.other_stack(self, frame, budget)
+
+    def realign(self, frame: Frame, budget: int) -> None:
+        self.world.realigned(self, frame, budget)
+
+    def store_through(self, frame: Frame, budget: int) -> None:
+        self.world.store_through(self, frame, budget)
+
     def hinted_site(self, frame: Frame, budget: int) -> None:
         self.world.hinted_site(self, frame)
 

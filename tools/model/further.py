@@ -1,5 +1,6 @@
 """Compares the built program with the model over what an object can be given besides tables: site lists, call frame information, a merged
-table of several objects; over changed files of these; and over what is told of an object besides its warnings: listings and backtraces."""
+table of several objects; over changed files of these; over walks by its tables; and over what is told of an object besides its warnings:
+listings and backtraces."""
 
 import random
 from typing import NamedTuple, Optional
@@ -14,6 +15,7 @@ from mutate import mutated
 from program import Program, differences
 from show import function_names, show
 from site_lists import listed, sites
+from walk import unwind
 
 # Each command that writes an object, with the one that reads what it adds.
 WRITERS = {"sites": (sites, "list", listed), "cfi": (cfi, "cfa", cfa)}
@@ -85,6 +87,29 @@ def layout_by_lot(names: list[str], sizes: list[int], rng: random.Random) -> str
     if rng.random() < 0.1:
         lines.insert(rng.randrange(len(lines) + 1), rng.choice(FAULTY_LINES))
     return "\n".join(lines) + rng.choice(["", "\n"])
+
+
+def image_by_lot(size: int, rng: random.Random) -> str:
+    """A thread that stopped in section number 1, which has this size, with words of its stacks: mostly addresses of these and of code."""
+    code, stacks = 0x1000, 0x7000
+    place = lambda: code + rng.randrange(size + 2)
+    word = lambda: rng.choice((place(), stacks + 8 * rng.randrange(80), stacks + rng.randrange(640), 0xA0000000, 5))
+    lines = [f"regs {place():x} {stacks + 8 * rng.randrange(20):x} {word():x}", f"place 1 {code:x}"]
+    holes = {rng.randrange(80) for _ in range(rng.choice((0, 0, 1, 3)))}
+    lines += [f"mem {stacks + 8 * i:x} {word().to_bytes(8, 'little').hex()}" for i in range(80) if i not in holes]
+    if rng.random() < 0.1:
+        lines.insert(rng.randrange(len(lines) + 1), rng.choice(("regs 1 2", "reg 1 2 3", "mem 7000 00", "mem 7 0", "place 1 2", "place 4 0", "# no", "", "mem ffffffffffffffff 0000")))
+    return "\n".join(lines) + rng.choice(("", "\n"))
+
+
+def walks(program: Program, objects: list[tuple[bytes, int]], rng: random.Random) -> list[Difference]:
+    """What differs in walks by the last of these objects with ORC tables, each with the size of its section number 1."""
+    found: list[Difference] = []
+    for data, size in objects[-1:]:
+        for _ in range(4):
+            image = image_by_lot(size, rng).encode()
+            found += told_apart(program, {"out.o": data, "image": image}, ["unwind", "out.o", "image"], unwind(data, image))
+    return found
 
 
 def changed_table(table: bytes, rng: random.Random) -> bytes:

@@ -8,6 +8,7 @@ import sys
 from typing import NamedTuple, Optional
 
 import by_hand
+import copying
 from assemble import Assembler, Label
 from bodies import PLAIN, Body, Frame
 from elf import FUNC, GLOBAL, LOCAL, NOTYPE, WEAK
@@ -20,7 +21,10 @@ NAMES = ["f", "g0", "h", "copy_data", "memset", "safe_one", "rep_movs_alternativ
 NAMES += ["__x86_return_thunk", "__x86_indirect_thunk_rax", "odd\\name", "with blank", "größe", "x.cold.3"]
 MOST_FUNCTIONS = 4
 KINDS = ("plain",) * 7 + ("leaf", "stopper", "ended", "unchecked", "weak", "loose", "switch")
-UNOWNED = "gate", "full", "func", "end", "junk", "call", "gate_in_a_site", "called", "joined", "joined", "hole", "hole", "embedded", "loose"
+UNOWNED = (
+    "gate", "full", "func", "end", "junk", "call", "gate_in_a_site", "called", "joined", "joined", "hole", "hole", "embedded", "loose",
+    "breakpoint", "breakpoint", "early",
+)  # fmt: skip
 
 
 class Member(NamedTuple):
@@ -148,6 +152,10 @@ class Maker:
             by_hand.hole(world, body, rng.choice(world.names))
         elif kind == "embedded":
             by_hand.embedded_code(world, body)
+        elif kind == "breakpoint":
+            copying.breakpoint_gate(world, body)
+        elif kind == "early":
+            copying.told_early(world, body)
         elif kind == "loose":
             world.hint(body, 4, 0, 1)
             by_hand.loose_function(world, body, frame)
@@ -160,7 +168,7 @@ class Maker:
             body.emit("58" if rng.random() < 0.8 else "4883c408")
             body.emit("48cf")
         elif kind == "full":
-            world.hint(body, 3, rng.choice((0, 8)), 1)
+            world.hint(body, 3, rng.choice((0, 8)), rng.choice((1, 1, 0)))
             for code in ("415f", "415e", "415d", "415c", "5d", "5b"):
                 body.emit(code)
             body.emit("4883c450")

@@ -3,8 +3,8 @@
 Object after object, the program checks it with the options of its turn, in a folder of its own. Its status, its lines and what it
 writes are compared with the model's answer, and where the object is accepted, its rows with those that `dump` prints. Each fourth
 object, and each that was written down by hand, is also given site lists and call frame information, checked against the entry rules
-and listed; where it breaks rules, its backtraces are judged; and the last accepted ones are given a merged table (further.py). The
-program must leave all other files alone. Before the made-up objects come the worked ones and those of single features. Objects with
+and listed; where it breaks rules, its backtraces are judged; and the last accepted ones are given a merged table and walked (further.py).
+The program must leave all other files alone. Before the made-up objects come the worked ones and those of single features. Objects with
 different answers are kept in the folder KEPT. The objects of FOLDER, as those of a kernel's build, are changed by lot too; where they
 are large, of the changed ones only the form of the answer is asked. The objects are shared out to as many processes as JOBS says, one
 a processor where it isn't given: which objects are made doesn't depend on it.
@@ -25,7 +25,7 @@ from commands import Answer
 from containers import container_by_lot
 from entries import entries_by_lot
 from features import FEATURES
-from further import Difference, backtraces, entry_rules, listings, merged_tables, written_objects
+from further import Difference, backtraces, entry_rules, listings, merged_tables, walks, written_objects
 from generate import made_object
 from joined import joined_object
 from mutate import mutated
@@ -168,7 +168,7 @@ class Comparison:
         how = self.program, case.data, "--all-opcodes" in case.options, case.names, rng
         found = written_objects(*how) + entry_rules(*how) + listings(*how)
         found += backtraces(self.program, case.data, case.options, case.names, answer)
-        return found + merged_tables(self.program, self.accepted, rng)
+        return found + merged_tables(self.program, self.accepted, rng) + walks(self.program, self.accepted, rng)
 
     def keep_files(self, difference: Difference, what: str) -> None:
         folder = f"{self.kept}/{hashlib.sha256(repr(difference).encode()).hexdigest()[:12]}"

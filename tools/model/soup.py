@@ -9,7 +9,22 @@ from opcodes import Fault, decode
 
 PREFIXES = (0x66, 0x67, 0xF2, 0xF3, 0xF0, 0x2E, 0x3E, 0x64, 0x65)
 # What stands before an instruction and what behind it.
-AROUND = (("", "c3"), ("", "c3"), ("554889e5", "c9c3"), ("55", "5dc3"), ("4883ec18", "4883c418c3"), ("4883ec1848892c24", "488b2c244883c418c3"))
+AROUND = (
+    ("", "c3"), ("", "c3"), ("554889e5", "c9c3"), ("55", "5dc3"), ("4883ec18", "4883c418c3"), ("4883ec1848892c24", "488b2c244883c418c3"),
+    # rsp aligned through r10 and r13, and on another stack
+    ("4c8d5424084883e4f0", "498d62f8c3"), ("4c8d6c24084883e4f0554889e54155", "415d5d498d65f8c3"), ("4989234c89dc", "5cc3"),
+)  # fmt: skip
+
+
+def around_by_lot(rng: random.Random) -> tuple[str, str]:
+    """What stands before an instruction and what behind it: often a copy of rsp, and what takes it back."""
+    if rng.random() < 0.6:
+        return rng.choice(AROUND)
+    reg = rng.choice([reg for reg in range(16) if reg != 4])
+    if reg == 5:
+        return rng.choice((("554883ec104889e5", "4889ec4883c4105dc3"), ("55534889e5", "488d65005b5dc3")))
+    to, back = bytes([0x48 | reg >> 3, 0x89, 0xE0 | reg & 7]).hex(), bytes([0x48 | reg >> 3 << 2, 0x89, 0xC4 | (reg & 7) << 3]).hex()
+    return to + rng.choice(("", "", "50", "4883ec18")), back + "c3"
 
 
 def vector_by_lot(rng: random.Random) -> bytes:
@@ -37,7 +52,7 @@ def bytes_by_lot(rng: random.Random) -> bytes:
     code = bytes(rng.choice(PREFIXES) for _ in range(rng.choice((0, 0, 0, 0, 1, 1, 2, 3))))
     if rng.random() < 0.6:
         code += bytes([rng.choice((0x48, 0x48, 0x48, 0x49, 0x4C, 0x40, 0x41, 0x44, 0x4F))])
-    opcodes = (b"\x89", b"\x8b", b"\x8d", b"\x81", b"\x83", b"\xff", b"\x8f", b"\x87", b"\x90", b"\xcf")
+    opcodes = (b"\x89", b"\x8b", b"\x8d", b"\x81", b"\x83", b"\xff", b"\x8f", b"\x87", b"\x90", b"\xcf", b"\xf7", b"\x0f\x01", b"\xa5", b"\x97")
     any_opcode = bytes([rng.getrandbits(8)])
     opcode = rng.choice((rng.choice(opcodes), any_opcode, b"\x0f" + any_opcode, b"\x0f\x38" + any_opcode))
     modrm = rng.choice((0x24, 0x2C, 0x64, 0x6C, 0xE5, 0xEC, 0xC4, 0xC5, 0xE4, 0xED, 0x6D, 0x65, rng.getrandbits(8), rng.getrandbits(8)))
@@ -62,7 +77,7 @@ def soup(seed) -> bytes:
     whole = rng.random() < 0.33
     faulty = rng.choice((rng.randrange(40), None, None, None))
     for i in range(40):
-        before, after = rng.choice(AROUND)
+        before, after = around_by_lot(rng)
         middle = rng.choice((bytes_by_lot, vector_by_lot))(rng) if i == faulty else instruction(rng, whole)
         body = bytes.fromhex(before) + middle + bytes.fromhex(after)
         symbols.append(Symbol(f"f{i}".encode(), GLOBAL, FUNC, 0, 1, len(code), len(body)))

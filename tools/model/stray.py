@@ -25,7 +25,8 @@ def stray(asm: Assembler, world, rng: random.Random) -> None:
             at.bind(*rng.choice(nops))
             asm.entry("__jump_table", bytes(16), {0: at, 4: boundary(asm, rng)})
     elif how == "hint":
-        world.hint_at(at, rng.choice((0, 1, 2, 3, 4, 5, 6, 7, 7)), rng.choice((8, 16, 24)), 0)
+        kind = rng.choice((0, 1, 2, 3, 4, 5, 6, 7, 7))
+        world.hint_at(at, kind, rng.choice((8, 16, 24)), rng.choice((0, 1)) if kind in (3, 4) else 0)
     elif how == "mark":
         asm.listed(rng.choice((".discard.reachable", ".discard.unreachable", ".discard.retpoline_safe")), at)
     elif how == "site":

@@ -3,6 +3,7 @@
 import random
 
 import by_hand
+import copying
 from assemble import Assembler, Field, Label
 from bodies import INDIRECT, JCC, NOPS, PLAIN, Body, Frame
 from elf import R_32S, R_64
@@ -25,9 +26,14 @@ FEATURES = {
     "flags": ["flags"],
     "runs": ["run", "run"],
     "told_sites": ["hinted_site"],
+    "copies": ["copied", "copied"],
+    "stacks": ["other_stack"],
+    "realigned": ["realign", "realign"],
+    "through": ["store_through"],
+    "traps": ["trap"],
 }
 # Those of them that have no code in them.
-LEAF_FEATURES = "stop", "fault", "sync", "flags", "site", "run", "hinted_site"
+LEAF_FEATURES = "stop", "fault", "sync", "flags", "site", "run", "hinted_site", "trap", "other_stack"
 SMAP = 308
 
 
@@ -36,7 +42,7 @@ class World:
 
     def __init__(self, asm: Assembler, rng: random.Random):
         self.asm, self.rng = asm, rng
-        features = [name for name in FEATURES if rng.random() < 0.4]
+        features = [name for name in FEATURES if rng.random() < 0.35]
         self.leaves = LEAVES + [leaf for name in features for leaf in FEATURES[name] if leaf in LEAF_FEATURES]
         self.constructs = self.leaves + AROUND + [c for name in features for c in FEATURES[name]]
         self.ways_out = rng.sample(["thunk", "indirect", "thunk_indirect", "out", "weak", "cond", "sibling"], rng.randint(0, 3))
@@ -110,6 +116,13 @@ class World:
 
     def go_by_caller(self, body: Body) -> None:
         by_hand.goes_by_caller(self, body)
+
+    # What keeps rsp elsewhere
+
+    copied = staticmethod(copying.copied)
+    other_stack = staticmethod(copying.other_stack)
+    realigned = staticmethod(copying.realigned)
+    store_through = staticmethod(copying.store_through)
 
     # Sites
 
