@@ -8,18 +8,25 @@ use x86_text::{Insn, InsnList, Op, TextFault};
 /// More instructions than a list has places for their hashes.
 const MANY: u16 = 6000;
 
-/// Of each three one that often comes, one of a few, and one that no other equals.
+/// Of each four one that often comes, two of a few, and one that no other equals.
 fn insn_of(n: u16) -> Insn {
-    match n % 3 {
+    match n % 4 {
         0 => Insn {
             len: 1,
             op: Op::Push,
+            writes: 0,
         },
-        1 => {
+        1 => Insn {
+            len: 3,
+            op: Op::Plain,
+            writes: n % 16,
+        },
+        2 => {
             let by = i64::from(n % 8);
             Insn {
                 len: 4,
                 op: Op::AddSp { by },
+                writes: 0x10,
             }
         }
         _ => {
@@ -27,6 +34,7 @@ fn insn_of(n: u16) -> Insn {
             Insn {
                 len: 5,
                 op: Op::Call { rel },
+                writes: 0,
             }
         }
     }

@@ -15,3 +15,4 @@ pub mod Decided
 pub mod Exact
 pub mod OnlyDecoded
 pub mod Extends
+pub mod Worked

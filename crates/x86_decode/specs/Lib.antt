@@ -9,3 +9,4 @@ pub mod Emulation
 pub mod Decoding
 pub mod MapLaw
 pub mod UsualForms
+pub mod Worked

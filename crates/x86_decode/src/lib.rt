@@ -5,6 +5,7 @@
 ghost use Rattle.std.specs.Prelude.{◌≡◌, true, ◌<◌, ◌≤◌, ◌↔◌, ℕ, length, take, IfOk, IfSome, Ok};
 ghost use Rattle.operation_defs.specs.Made.{is_decoded};
 ghost use Rattle.x86_decode.specs.MapLaw.{MapIsExact, WholeExtendsBase, WholeStandsAlike};
+ghost use Rattle.x86_decode.specs.Worked.{HasWorkedOperations, HasWorkedWrites, HasWorkedWhole};
 ghost use Rattle.x86_decode.specs.Decoding.{StandsInFront, EndsOutside, IsCut, IsTooLong, OneInFront, OneOutcome, OneSpelling, decoded, read_in_front};
 
 mod action;
@@ -149,4 +150,11 @@ pub fn whole_extends_base()
 /// where some spelling has one, and refuses exactly where there is none.
 pub fn map_is_exact()
     ensures { MapIsExact }
+{}
+
+/// What decoding gives of some instructions, by the SDM: what they do, and which registers they write.
+pub fn worked_instructions()
+    ensures operations { HasWorkedOperations }
+    ensures writes { HasWorkedWrites }
+    ensures whole { HasWorkedWhole }
 {}
