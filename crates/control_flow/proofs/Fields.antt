@@ -10,7 +10,7 @@ use Rattle.machine_defs.specs.MayReturn.{is_listed, is_listed_by, is_listed_symb
 use Rattle.machine_defs.specs.Program.{Program}
 use Rattle.flow_defs.specs.Code.{point_at}
 use Rattle.flow_defs.specs.Owners.{function_of_point, owner_of_point}
-use Rattle.flow_defs.specs.Program.{comes_back, graph_of, is_marked_call, never_returns_by, program_of, returning_graph}
+use Rattle.flow_defs.specs.Program.{comes_back, graph_of, is_marked_call, never_returns_by, uncopied_program, returning_graph}
 use Rattle.flow_defs.specs.Roles.{role_of}
 use Rattle.flow_defs.specs.Targets.{names_of}
 use Rattle.return_search.specs.declared.searched_flow.Exit.{Exit}
@@ -21,32 +21,32 @@ none_is : (x : Option ℕ) → is_none x ≡ not (is_some x)
 none_is None = refl
 none_is (Some x) = refl
 
-pub never_returns_is : (o : Coded) (lists : NameLists) (sym : ℕ) → (program_of o lists).never_returns sym ≡ never_returns_by o.elf lists sym
-unfolding program_of returning_graph graph_of
+pub never_returns_is : (o : Coded) (lists : NameLists) (sym : ℕ) → (uncopied_program o lists).never_returns sym ≡ never_returns_by o.elf lists sym
+unfolding uncopied_program returning_graph graph_of
 never_returns_is o lists sym = refl
 
-pub comes_back_is : (o : Coded) (lists : NameLists) (q : ℕ) → target_may_return (program_of o lists) q ≡ comes_back o lists q
-unfolding program_of returning_graph graph_of
+pub comes_back_is : (o : Coded) (lists : NameLists) (q : ℕ) → target_may_return (uncopied_program o lists) q ≡ comes_back o lists q
+unfolding uncopied_program returning_graph graph_of
 comes_back_is o lists q = refl
 
-pub role_is : (o : Coded) (lists : NameLists) (q : ℕ) → (program_of o lists).role q ≡ role_of o (point_at o q)
-unfolding program_of returning_graph graph_of
+pub role_is : (o : Coded) (lists : NameLists) (q : ℕ) → (uncopied_program o lists).role q ≡ role_of o (point_at o q)
+unfolding uncopied_program returning_graph graph_of
 role_is o lists q = refl
 
-pub marked_is : (o : Coded) (lists : NameLists) (q : ℕ) → (program_of o lists).marked_call q ≡ is_marked_call o (point_at o q)
-unfolding program_of returning_graph graph_of
+pub marked_is : (o : Coded) (lists : NameLists) (q : ℕ) → (uncopied_program o lists).marked_call q ≡ is_marked_call o (point_at o q)
+unfolding uncopied_program returning_graph graph_of
 marked_is o lists q = refl
 
-owner_is : (o : Coded) (lists : NameLists) (q : ℕ) → (program_of o lists).owner q ≡ owner_of_point o (point_at o q)
-unfolding program_of returning_graph graph_of
+owner_is : (o : Coded) (lists : NameLists) (q : ℕ) → (uncopied_program o lists).owner q ≡ owner_of_point o (point_at o q)
+unfolding uncopied_program returning_graph graph_of
 owner_is o lists q = refl
 
 -- ---- exits
 -- that of a point with this role
-exit_as : (o : Coded) (lists : NameLists) (q : ℕ) (role : Role) → role_of o (point_at o q) ≡ role → exit_of (program_of o lists) q ≡ exit_by (program_of o lists) q role
-exit_as o lists q role is = ap (exit_by (program_of o lists) q) (role_is o lists q ∙ is)
+exit_as : (o : Coded) (lists : NameLists) (q : ℕ) (role : Role) → role_of o (point_at o q) ≡ role → exit_of (uncopied_program o lists) q ≡ exit_by (uncopied_program o lists) q role
+exit_as o lists q role is = ap (exit_by (uncopied_program o lists) q) (role_is o lists q ∙ is)
 
-pub plain_exit : (o : Coded) (lists : NameLists) (q : ℕ) → role_of o (point_at o q) ≡ roles.Plain → exits.Passes ≡ exit_of (program_of o lists) q
+pub plain_exit : (o : Coded) (lists : NameLists) (q : ℕ) → role_of o (point_at o q) ≡ roles.Plain → exits.Passes ≡ exit_of (uncopied_program o lists) q
 plain_exit o lists q is = sym (exit_as o lists q roles.Plain is)
 
 -- a listed call isn't marked, and is told by a listed name
@@ -63,7 +63,7 @@ out false listed isnt = ap (λ (b : Bool). call_exit false b exits.CallsOut) isn
 
 module _ (o : Coded) (lists : NameLists) (q : ℕ) where
   abbrev p : Program
-  p = program_of o lists
+  p = uncopied_program o lists
 
   -- what a listed call is to a return, by its role
   listed_by : (role : Role) → p.marked_call q ≡ false → is_listed p q ≡ true → is_listed_by p (p.names q) role ≡ true → exit_by p q role ≡ exits.CallsNever
@@ -123,37 +123,37 @@ module _ (o : Coded) (lists : NameLists) (q : ℕ) where
   free_entry entry listed free by = by ∙ sym (ap (λ (b : Bool). b && is_listed_symbol p (p.names q)) (ap is_none (owner_is o lists entry) ∙ none_is (owner_of_point o (point_at o entry)) ∙ ap not free))
 
 -- whether a function is listed, by its symbol
-pub listed_name : (o : Coded) (lists : NameLists) (n name : ℕ) → function_of_point o (point_at o n) ≡ Some name → is_listed_symbol (program_of o lists) ((program_of o lists).function n) ≡ never_returns_by o.elf lists name
-unfolding program_of returning_graph graph_of
-listed_name o lists n name is = ap (is_listed_symbol (program_of o lists)) is
+pub listed_name : (o : Coded) (lists : NameLists) (n name : ℕ) → function_of_point o (point_at o n) ≡ Some name → is_listed_symbol (uncopied_program o lists) ((uncopied_program o lists).function n) ≡ never_returns_by o.elf lists name
+unfolding uncopied_program returning_graph graph_of
+listed_name o lists n name is = ap (is_listed_symbol (uncopied_program o lists)) is
 
-pub no_listed_name : (o : Coded) (lists : NameLists) (n : ℕ) → function_of_point o (point_at o n) ≡ None → is_listed_symbol (program_of o lists) ((program_of o lists).function n) ≡ false
-unfolding program_of returning_graph graph_of
-no_listed_name o lists n is = ap (is_listed_symbol (program_of o lists)) is
+pub no_listed_name : (o : Coded) (lists : NameLists) (n : ℕ) → function_of_point o (point_at o n) ≡ None → is_listed_symbol (uncopied_program o lists) ((uncopied_program o lists).function n) ≡ false
+unfolding uncopied_program returning_graph graph_of
+no_listed_name o lists n is = ap (is_listed_symbol (uncopied_program o lists)) is
 
 -- whether what a point names is, by the symbol
-pub listed_symbol : (o : Coded) (lists : NameLists) (n name : ℕ) → names_of o (point_at o n) ≡ Some name → is_listed_symbol (program_of o lists) ((program_of o lists).names n) ≡ never_returns_by o.elf lists name
-unfolding program_of returning_graph graph_of
-listed_symbol o lists n name is = ap (is_listed_symbol (program_of o lists)) is
+pub listed_symbol : (o : Coded) (lists : NameLists) (n name : ℕ) → names_of o (point_at o n) ≡ Some name → is_listed_symbol (uncopied_program o lists) ((uncopied_program o lists).names n) ≡ never_returns_by o.elf lists name
+unfolding uncopied_program returning_graph graph_of
+listed_symbol o lists n name is = ap (is_listed_symbol (uncopied_program o lists)) is
 
-pub no_listed_symbol : (o : Coded) (lists : NameLists) (n : ℕ) → names_of o (point_at o n) ≡ None → is_listed_symbol (program_of o lists) ((program_of o lists).names n) ≡ false
-unfolding program_of returning_graph graph_of
-no_listed_symbol o lists n is = ap (is_listed_symbol (program_of o lists)) is
+pub no_listed_symbol : (o : Coded) (lists : NameLists) (n : ℕ) → names_of o (point_at o n) ≡ None → is_listed_symbol (uncopied_program o lists) ((uncopied_program o lists).names n) ≡ false
+unfolding uncopied_program returning_graph graph_of
+no_listed_symbol o lists n is = ap (is_listed_symbol (uncopied_program o lists)) is
 
 -- whether a call is told by a listed name, by the names that it is by
 module _ (o : Coded) (lists : NameLists) (named : Option ℕ) (role : Role) where
-  pub out_listed : (name : ℕ) (never : Bool) → role ≡ roles.CallOut name → never ≡ never_returns_by o.elf lists name → never ≡ is_listed_by (program_of o lists) named role
-  out_listed name never is by = by ∙ sym (never_returns_is o lists name) ∙ sym (ap (is_listed_by (program_of o lists) named) is)
+  pub out_listed : (name : ℕ) (never : Bool) → role ≡ roles.CallOut name → never ≡ never_returns_by o.elf lists name → never ≡ is_listed_by (uncopied_program o lists) named role
+  out_listed name never is by = by ∙ sym (never_returns_is o lists name) ∙ sym (ap (is_listed_by (uncopied_program o lists) named) is)
 
   module _ (entry name : ℕ) (is : role ≡ roles.CallEither entry name) where
     abbrev by_entry : Bool
-    by_entry = is_listed_symbol (program_of o lists) ((program_of o lists).function entry)
+    by_entry = is_listed_symbol (uncopied_program o lists) ((uncopied_program o lists).function entry)
 
-    by_name : (never b : Bool) → never ≡ never_returns_by o.elf lists name → never ≡ b → is_listed_by (program_of o lists) named role ≡ (b || by_entry)
-    by_name never b by known = ap (is_listed_by (program_of o lists) named) is ∙ ap (λ (n : Bool). n || by_entry) (never_returns_is o lists name ∙ sym by ∙ known)
+    by_name : (never b : Bool) → never ≡ never_returns_by o.elf lists name → never ≡ b → is_listed_by (uncopied_program o lists) named role ≡ (b || by_entry)
+    by_name never b by known = ap (is_listed_by (uncopied_program o lists) named) is ∙ ap (λ (n : Bool). n || by_entry) (never_returns_is o lists name ∙ sym by ∙ known)
 
-    pub name_listed : (never : Bool) → never ≡ never_returns_by o.elf lists name → never ≡ true → never ≡ is_listed_by (program_of o lists) named role
+    pub name_listed : (never : Bool) → never ≡ never_returns_by o.elf lists name → never ≡ true → never ≡ is_listed_by (uncopied_program o lists) named role
     name_listed never by listed = listed ∙ sym (by_name never true by listed)
 
-    pub entry_listed : (never found : Bool) → never ≡ never_returns_by o.elf lists name → never ≡ false → found ≡ by_entry → found ≡ is_listed_by (program_of o lists) named role
+    pub entry_listed : (never found : Bool) → never ≡ never_returns_by o.elf lists name → never ≡ false → found ≡ by_entry → found ≡ is_listed_by (uncopied_program o lists) named role
     entry_listed never found by unlisted own = own ∙ sym (by_name never false by unlisted)

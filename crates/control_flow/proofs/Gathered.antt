@@ -14,7 +14,7 @@ use Rattle.machine_defs.specs.Program.{edge}
 use Rattle.flow_defs.specs.Arrival.{is_dead_end}
 use Rattle.flow_defs.specs.Code.{point_at}
 use Rattle.flow_defs.specs.Edges.{goes}
-use Rattle.flow_defs.specs.Program.{program_of}
+use Rattle.flow_defs.specs.Program.{uncopied_program}
 use Rattle.return_search.specs.declared.searched_flow.Exit.{Exit}
 use Rattle.return_search.specs.Flagged.{AreFlagged}
 use Rattle.return_search.specs.Told.{exit_of}
@@ -26,10 +26,10 @@ use Rattle.control_flow.proofs.Steps.{each_more}
 pub no_exits : (o : Coded) (lists : NameLists) → AreExits o lists [] 0
 no_exits o lists = record { long = refl; each = λ q d l. absurd (omega arith); known = All-nil (ExitCallsPoint o) }
 
-pub exits_more : (o : Coded) (lists : NameLists) (exits : List Exit) (n : ℕ) (exit : Exit) → AreExits o lists exits n → exit ≡ exit_of (program_of o lists) n → ExitCallsPoint o exit → AreExits o lists (exits ++ exit ∷ []) (n + 1)
+pub exits_more : (o : Coded) (lists : NameLists) (exits : List Exit) (n : ℕ) (exit : Exit) → AreExits o lists exits n → exit ≡ exit_of (uncopied_program o lists) n → ExitCallsPoint o exit → AreExits o lists (exits ++ exit ∷ []) (n + 1)
 exits_more o lists exits n exit are here known = record {
   long = omega (arith, length_push exits exit, are.long);
-  each = each_more (λ q. exit_of (program_of o lists) q) exits exit n are.long are.each here;
+  each = each_more (λ q. exit_of (uncopied_program o lists) q) exits exit n are.long are.each here;
   known = All-push (ExitCallsPoint o) exits exit are.known known;
 }
 

@@ -22,7 +22,7 @@ use Rattle.flow_defs.specs.Code.{point_at}
 use Rattle.flow_defs.specs.Edges.{branch_edges, branch_edges_by, edges_to, ends_flow, fixups, goes, goes_on, is_some_place, listed_edges, next_edges, static_targets, table_edges, way_edges}
 use Rattle.flow_defs.specs.Marks.{branch_places, calls_into_function, has_bad_target, has_relocated_offset, has_target_in_site, is_bad_branch, is_bad_by, is_bad_listed, is_inner_call_by, listed_places, places_by, target_places}
 use Rattle.flow_defs.specs.Owners.{is_unchecked_point}
-use Rattle.flow_defs.specs.Program.{calls_fentry_by, program_of}
+use Rattle.flow_defs.specs.Program.{calls_fentry_by, uncopied_program}
 use Rattle.flow_defs.specs.Roles.{returns_through, role_by, role_of, role_through, table_of_point}
 use Rattle.flow_defs.specs.Sites.{is_into_site}
 use Rattle.return_search.specs.declared.searched_flow.Exit.TheVariants.{Passes}
@@ -168,7 +168,7 @@ module _ (o : Coded) (n : ℕ) (is : IsStraight o n) where
     names = names_nothing o p (straight_direct o p is.straight);
   }
 
-  pub straight_exit : (lists : NameLists) → Passes ≡ exit_of (program_of o lists) n
+  pub straight_exit : (lists : NameLists) → Passes ≡ exit_of (uncopied_program o lists) n
   straight_exit lists = plain_exit o lists n straight_role
 
   pub below_inside : (b : Bool) → All (λ e. e.to < count_of o) (cond b [] (edge (n + 1) Next ∷ []))

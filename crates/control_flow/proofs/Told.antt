@@ -16,7 +16,7 @@ use Rattle.machine_defs.specs.MayReturn.{is_listed}
 use Rattle.machine_defs.specs.Program.{IsPoint, Program, entry_points}
 use Rattle.flow_defs.specs.Code.{point_at}
 use Rattle.flow_defs.specs.Edges.{goes}
-use Rattle.flow_defs.specs.Program.{graph_of, program_of, returning_graph}
+use Rattle.flow_defs.specs.Program.{graph_of, uncopied_program, returning_graph}
 use Rattle.flow_defs.specs.Roles.{role_of}
 use Rattle.return_search.specs.declared.searched_flow.Exit.{Exit}
 use Rattle.return_search.specs.declared.searched_flow.Exit.TheVariants as exits
@@ -53,9 +53,9 @@ exit_calls p q roles.JumpAny entry e = absurd (let k : ⊥ = cc in k)
 exit_calls p q roles.Switch entry e = absurd (let k : ⊥ = cc in k)
 
 -- and where the entry that a point's role calls is a point, so is that which its exit calls
-pub exit_calls_point : (o : Coded) (lists : NameLists) (q : ℕ) (role : Role) (exit : Exit) → role ≡ role_of o (point_at o q) → exit ≡ exit_of (program_of o lists) q → CallsPoint o role → ExitCallsPoint o exit
+pub exit_calls_point : (o : Coded) (lists : NameLists) (q : ℕ) (role : Role) (exit : Exit) → role ≡ role_of o (point_at o q) → exit ≡ exit_of (uncopied_program o lists) q → CallsPoint o role → ExitCallsPoint o exit
 exit_calls_point o lists q role exit own is known entry e =
-    known.inside entry (own ∙ sym (role_is o lists q) ∙ exit_calls (program_of o lists) q ((program_of o lists).role q) entry (sym is ∙ e))
+    known.inside entry (own ∙ sym (role_is o lists q) ∙ exit_calls (uncopied_program o lists) q ((uncopied_program o lists).role q) entry (sym is ∙ e))
 
 symmetric : (a b : ℕ) → eqb a b ≡ eqb b a
 symmetric a b = grind (arith, nat_tests)
@@ -78,22 +78,22 @@ module _ (o : Coded) (lists : NameLists) (flow : Flow) (alike : List ℕ)
     (leave : AreExits o lists flow.exits.items (count_of o))
     (dead : AreDeadEnds o flow.dead_ends.items (count_of o))
     (entered : AreEntered o flow.entered.items (count_of o))
-    (program : IsProgram (program_of o lists)) where
+    (program : IsProgram (uncopied_program o lists)) where
   pub flow_count : length flow.exits.items ≡ count_of o
   flow_count = leave.long
 
-  exit_is : (q : ℕ) → q < count_of o → exit_of (program_of o lists) q ≡ exit_at flow q
+  exit_is : (q : ℕ) → q < count_of o → exit_of (uncopied_program o lists) q ≡ exit_at flow q
   exit_is q here = sym (leave.each q exits.Passes here)
 
-  callees_are : (call entry q : ℕ) → IsPoint (program_of o lists) call → (program_of o lists).role call ≡ roles.CallIn entry → q < count_of o → Contains (entry_points (program_of o lists) entry) q ↔ (callee_at flow q ≡ entry)
-  unfolding program_of returning_graph graph_of
+  callees_are : (call entry q : ℕ) → IsPoint (uncopied_program o lists) call → (uncopied_program o lists).role call ≡ roles.CallIn entry → q < count_of o → Contains (entry_points (uncopied_program o lists) entry) q ↔ (callee_at flow q ≡ entry)
+  unfolding uncopied_program returning_graph graph_of
   callees_are call entry q at calls here = elim (program.calls_entry call entry at calls) [
     | inl listed ↦ entry_named o flow.entered.items entered entry q here listed
     | inr may ↦ open_named o flow.entered.items entered entry q here may.point may.plain may.of_none
   ]
 
-  edges_shared : (q : ℕ) → q < count_of o → Contains alike q → (r : ℕ) × SharesEdges (program_of o lists) flow q r
-  unfolding program_of returning_graph graph_of
+  edges_shared : (q : ℕ) → q < count_of o → Contains alike q → (r : ℕ) × SharesEdges (uncopied_program o lists) flow q r
+  unfolding uncopied_program returning_graph graph_of
   edges_shared q here c =
       let (r, is) = edges.alike_each q here c in
       let there : r < count_of o = (let l : r < q = is.edges_of.earlier in omega arith) in (
@@ -108,14 +108,14 @@ module _ (o : Coded) (lists : NameLists) (flow : Flow) (alike : List ℕ)
         },
       )
 
-  edges_are : (q : ℕ) → q < count_of o → (goes o (point_at o q) ≡ edges_from flow q) ⊎ ((r : ℕ) × SharesEdges (program_of o lists) flow q r)
+  edges_are : (q : ℕ) → q < count_of o → (goes o (point_at o q) ≡ edges_from flow q) ⊎ ((r : ℕ) × SharesEdges (uncopied_program o lists) flow q r)
   edges_are q here = elim (is_in alike q) [
     | inl c ↦ inr (edges_shared q here c)
     | inr own ↦ inl (sym (edges.each q here own))
   ]
 
-  pub tells_flow : TellsFlow (program_of o lists) flow
-  unfolding program_of returning_graph graph_of
+  pub tells_flow : TellsFlow (uncopied_program o lists) flow
+  unfolding uncopied_program returning_graph graph_of
   tells_flow = record {
     count = sym flow_count;
     edges = λ q here. edges_are q here;

@@ -11,7 +11,7 @@ use Rattle.machine_defs.specs.Kept.{is_at_entry}
 use Rattle.flow_defs.specs.Coded.{Coded}
 use Rattle.flow_defs.specs.Arrival.{decoded_insn, is_dead_end}
 use Rattle.flow_defs.specs.Code.{point_at}
-use Rattle.flow_defs.specs.Program.{program_of}
+use Rattle.flow_defs.specs.Program.{uncopied_program}
 use Rattle.flow_defs.specs.Switching.{around_by, insn_by}
 use Rattle.program_graph.specs.declared.parts.PointKind.{PointKind}
 use Rattle.control_flow.specs.Kinds.{AreUsual, StaysDecoded, usual_kind}
@@ -77,7 +77,7 @@ unfolding insn_by
 same_in_program o lists p stays = ap (λ (op : Op). let it : Insn = record { len = (decoded_insn o p).len; op = op } in it) (stays (around_by o lists p))
 
 -- the usual kind is that of a point of which nothing else is told
-pub usual_is : (o : Coded) (lists : NameLists) (q : ℕ) (may_return is_entered : Bool) (transfer : ℕ) → StaysDecoded (decoded_insn o (point_at o q)).op → is_dead_end o (point_at o q) ≡ false → (may_return ≡ true) × (is_entered ≡ false) × (transfer ≡ 0) → ((other : NameLists) → is_at_entry (program_of o other) q ≡ is_entered) → IsKind o lists q may_return 0 transfer (usual_kind (decoded_insn o (point_at o q)))
+pub usual_is : (o : Coded) (lists : NameLists) (q : ℕ) (may_return is_entered : Bool) (transfer : ℕ) → StaysDecoded (decoded_insn o (point_at o q)).op → is_dead_end o (point_at o q) ≡ false → (may_return ≡ true) × (is_entered ≡ false) × (transfer ≡ 0) → ((other : NameLists) → is_at_entry (uncopied_program o other) q ≡ is_entered) → IsKind o lists q may_return 0 transfer (usual_kind (decoded_insn o (point_at o q)))
 unfolding usual_kind
 usual_is o lists q may_return is_entered transfer stays passed told entered = record {
   insn = same_in_program o lists (point_at o q) stays;

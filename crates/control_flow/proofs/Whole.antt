@@ -17,7 +17,7 @@ use Rattle.flow_defs.specs.Edges.{goes}
 use Rattle.flow_defs.specs.Arrival.{hint_of, own_hint_of, start_hint_of}
 use Rattle.flow_defs.specs.Hints.{is_restore}
 use Rattle.flow_defs.specs.Marks.{marks_of}
-use Rattle.flow_defs.specs.Program.{comes_back, graph_of, program_of, returning_graph, text_sections_of, unsized_of}
+use Rattle.flow_defs.specs.Program.{comes_back, graph_of, uncopied_program, returning_graph, text_sections_of, unsized_of}
 use Rattle.flow_defs.specs.Sites.{sites_of}
 use Rattle.symbols_relocs.specs.Covers.{is_linked}
 use Rattle.state_defs.specs.declared.state.HintState.{HintState}
@@ -91,20 +91,20 @@ module _ (o : Coded) (lists : NameLists) (parts : GraphParts) (returns : Returns
   inside : (q : ℕ) (x : GraphPoint) → slice_get parts.points.items q ≡ Some x → q < count_of o
   inside q x at = omega (arith, slice_get_within parts.points.items q x at, are.points.long)
 
-  tells_owner : (q : ℕ) (w : Owner) → IsOwnerOf o lists q w → TellsOwner (program_of o lists) q w
-  unfolding program_of returning_graph graph_of
+  tells_owner : (q : ℕ) (w : Owner) → IsOwnerOf o lists q w → TellsOwner (uncopied_program o lists) q w
+  unfolding uncopied_program returning_graph graph_of
   tells_owner q w is = record { function = is.function; owner = is.owner; unchecked = is.unchecked; in_patches = is.patches; loose = is.loose; uncovered = is.covered }
 
-  means : (q r : ℕ) → IsMeant o q r → Means (program_of o lists) q r
-  unfolding program_of returning_graph graph_of
+  means : (q r : ℕ) → IsMeant o q r → Means (uncopied_program o lists) q r
+  unfolding uncopied_program returning_graph graph_of
   means q r is = record { point = is.0; hint = is.1; save = is.2 }
 
-  meant : (q r : ℕ) → Means (program_of o lists) q r → IsMeant o q r
-  unfolding program_of returning_graph graph_of
+  meant : (q r : ℕ) → Means (uncopied_program o lists) q r → IsMeant o q r
+  unfolding uncopied_program returning_graph graph_of
   meant q r is = (is.point, is.hint, is.save)
 
-  tells_hinted : (q : ℕ) (x : Hinted) → IsHinted o parts.restores.items q x → TellsHinted (program_of o lists) parts q x
-  unfolding program_of returning_graph graph_of
+  tells_hinted : (q : ℕ) (x : Hinted) → IsHinted o parts.restores.items q x → TellsHinted (uncopied_program o lists) parts q x
+  unfolding uncopied_program returning_graph graph_of
   tells_hinted q x is = record {
     hint = is.hint;
     own = is.own;
@@ -112,8 +112,8 @@ module _ (o : Coded) (lists : NameLists) (parts : GraphParts) (returns : Returns
     restores = λ r. (λ c. means q r ((is.restores r).0 c), λ m. (is.restores r).1 (meant q r m));
   }
 
-  tells_unhinted : (q : ℕ) → IsUnhinted o q → TellsUnhinted (program_of o lists) q
-  unfolding program_of returning_graph graph_of hint_of
+  tells_unhinted : (q : ℕ) → IsUnhinted o q → TellsUnhinted (uncopied_program o lists) q
+  unfolding uncopied_program returning_graph graph_of hint_of
   tells_unhinted q is = record {
     hint = is;
     own = no_own (own_hint_of o (point_at o q)) (start_hint_of o (point_at o q)) is;
@@ -121,8 +121,8 @@ module _ (o : Coded) (lists : NameLists) (parts : GraphParts) (returns : Returns
     restores = λ r m. meant_has_hint o (point_at o r) q (meant q r m).2 is;
   }
 
-  tells_rare : (q : ℕ) (x : Rare) → HasRare q x → TellsRare (program_of o lists) parts q x
-  unfolding program_of returning_graph graph_of
+  tells_rare : (q : ℕ) (x : Rare) → HasRare q x → TellsRare (uncopied_program o lists) parts q x
+  unfolding uncopied_program returning_graph graph_of
   tells_rare q x is = record {
     variant = is.rare.variant;
     address = is.rare.address;
@@ -132,15 +132,15 @@ module _ (o : Coded) (lists : NameLists) (parts : GraphParts) (returns : Returns
   }
 
   marks_are : (q : ℕ) → q < count_of o → slice_index_or returns.comes_back.items q false ≡ comes_back o lists q
-  unfolding program_of returning_graph graph_of
-  marks_are q here = get_or_from_slice_get returns.comes_back.items q (target_may_return (program_of o lists) q) false (are.returns_told.told.comes_back q here) ∙ comes_back_is o lists q
+  unfolding uncopied_program returning_graph graph_of
+  marks_are q here = get_or_from_slice_get returns.comes_back.items q (target_may_return (uncopied_program o lists) q) false (are.returns_told.told.comes_back q here) ∙ comes_back_is o lists q
 
-  returns_are : (q : ℕ) → q < count_of o → slice_index_or returns.may_return.items q false ≡ (program_of o lists).may_return q
-  unfolding program_of returning_graph graph_of
-  returns_are q here = get_or_from_slice_get returns.may_return.items q ((program_of o lists).may_return q) false (are.returns_told.told.may_return q here)
+  returns_are : (q : ℕ) → q < count_of o → slice_index_or returns.may_return.items q false ≡ (uncopied_program o lists).may_return q
+  unfolding uncopied_program returning_graph graph_of
+  returns_are q here = get_or_from_slice_get returns.may_return.items q ((uncopied_program o lists).may_return q) false (are.returns_told.told.may_return q here)
 
-  tells_transfer : (q : ℕ) (x : Transfer) → q < count_of o → IsTransferOf o returns q x → TellsTransfer (program_of o lists) q x
-  unfolding program_of returning_graph graph_of
+  tells_transfer : (q : ℕ) (x : Transfer) → q < count_of o → IsTransferOf o returns q x → TellsTransfer (uncopied_program o lists) q x
+  unfolding uncopied_program returning_graph graph_of
   tells_transfer q x here is = record {
     role = is.role;
     marks = ap (marks_of o (point_at o q)) (sym (marks_are q here)) ∙ is.marks;
@@ -160,8 +160,8 @@ module _ (o : Coded) (lists : NameLists) (parts : GraphParts) (returns : Returns
   kind_of : (q : ℕ) (k : PointKind) → IsKindOf parts q k → IsKind o lists q (slice_index_or returns.may_return.items q false) (slice_index rares q) (slice_index transfers q) k
   kind_of q k is = kind_is q is.point k is.at is.named
 
-  tells_kind : (q : ℕ) (k : PointKind) → q < count_of o → IsKind o lists q (slice_index_or returns.may_return.items q false) (slice_index rares q) (slice_index transfers q) k → TellsKind (program_of o lists) parts q k
-  unfolding program_of returning_graph graph_of
+  tells_kind : (q : ℕ) (k : PointKind) → q < count_of o → IsKind o lists q (slice_index_or returns.may_return.items q false) (slice_index rares q) (slice_index transfers q) k → TellsKind (uncopied_program o lists) parts q k
+  unfolding uncopied_program returning_graph graph_of
   tells_kind q k here is = record {
     insn = is.insn;
     dead_end = is.dead_end;
@@ -171,8 +171,8 @@ module _ (o : Coded) (lists : NameLists) (parts : GraphParts) (returns : Returns
     rare = λ r own. tells_rare q r (numbered_at HasRare parts.rares.items rares (count_of o) q k.rare r are.rares.numbered.have here is.rare_number own);
   }
 
-  tells_point : (q : ℕ) (x : GraphPoint) → slice_get parts.points.items q ≡ Some x → TellsPoint (program_of o lists) parts q x
-  unfolding program_of returning_graph graph_of
+  tells_point : (q : ℕ) (x : GraphPoint) → slice_get parts.points.items q ≡ Some x → TellsPoint (uncopied_program o lists) parts q x
+  unfolding uncopied_program returning_graph graph_of
   tells_point q x at =
       let placed = (are.points.each q x at).placed in
       record {
@@ -182,38 +182,38 @@ module _ (o : Coded) (lists : NameLists) (parts : GraphParts) (returns : Returns
       }
 
   -- the edges of a point in the graph are those that are listed of it, but for the Next of a call that can't come back
-  listed_is : (q : ℕ) → q < count_of o → listed_of parts q ≡ filter (λ e. can_go (program_of o lists) q e.kind) (slice_range edges (slice_index starts q) (slice_index starts (q + 1)))
-  unfolding program_of returning_graph graph_of
+  listed_is : (q : ℕ) → q < count_of o → listed_of parts q ≡ filter (λ e. can_go (uncopied_program o lists) q e.kind) (slice_range edges (slice_index starts q) (slice_index starts (q + 1)))
+  unfolding uncopied_program returning_graph graph_of
   listed_is q here =
       ap (λ (ss : List ℕ). slice_range parts.edges.items (slice_index ss q) (slice_index ss (q + 1))) are.parts_starts
       ∙ ap (λ (es : List Edge). slice_range es (slice_index returns.starts.items q) (slice_index returns.starts.items (q + 1))) are.parts_edges
       ∙ are.returns_told.told.edges q here
-      ∙ ap (λ (ss : List ℕ). filter (λ e. can_go (program_of o lists) q e.kind) (slice_range are.returns_told.flow.edges.items (slice_index ss q) (slice_index ss (q + 1)))) are.returns_told.flow_starts
-      ∙ ap (λ (es : List Edge). filter (λ e. can_go (program_of o lists) q e.kind) (slice_range es (slice_index starts q) (slice_index starts (q + 1)))) are.returns_told.flow_edges
+      ∙ ap (λ (ss : List ℕ). filter (λ e. can_go (uncopied_program o lists) q e.kind) (slice_range are.returns_told.flow.edges.items (slice_index ss q) (slice_index ss (q + 1)))) are.returns_told.flow_starts
+      ∙ ap (λ (es : List Edge). filter (λ e. can_go (uncopied_program o lists) q e.kind) (slice_range es (slice_index starts q) (slice_index starts (q + 1)))) are.returns_told.flow_edges
 
-  own_edges : (q : ℕ) → q < count_of o → (Contains parts.alike.items q → ⊥) → edges_of (program_of o lists) q ≡ listed_of parts q
-  unfolding program_of returning_graph graph_of
-  own_edges q here own = sym (listed_is q here ∙ ap (filter (λ e. can_go (program_of o lists) q e.kind)) (are.listed.each q here own))
+  own_edges : (q : ℕ) → q < count_of o → (Contains parts.alike.items q → ⊥) → edges_of (uncopied_program o lists) q ≡ listed_of parts q
+  unfolding uncopied_program returning_graph graph_of
+  own_edges q here own = sym (listed_is q here ∙ ap (filter (λ e. can_go (uncopied_program o lists) q e.kind)) (are.listed.each q here own))
 
   first_of : (q : ℕ) → q < count_of o → Contains parts.alike.items q → (r : ℕ) × HasEdgesOf o parts.alike.items q r × (listed_of parts q ≡ edge r Table ∷ [])
   first_of q here c =
       let (r, is) = are.listed.alike_each q here c in
-      (r, is.edges_of, listed_is q here ∙ ap (filter (λ e. can_go (program_of o lists) q e.kind)) is.listed)
+      (r, is.edges_of, listed_is q here ∙ ap (filter (λ e. can_go (uncopied_program o lists) q e.kind)) is.listed)
 
-  same_edges : (q r : ℕ) → HasEdgesOf o parts.alike.items q r → edges_of (program_of o lists) q ≡ edges_of (program_of o lists) r
-  unfolding program_of returning_graph graph_of
+  same_edges : (q r : ℕ) → HasEdgesOf o parts.alike.items q r → edges_of (uncopied_program o lists) q ≡ edges_of (uncopied_program o lists) r
+  unfolding uncopied_program returning_graph graph_of
   same_edges q r has =
       let go = has.go_alike in
-      ap (filter (λ e. can_go (program_of o lists) q e.kind)) go.edges
-      ∙ tables_stay (program_of o lists) q (goes o (point_at o r)) go.tables
-      ∙ sym (tables_stay (program_of o lists) r (goes o (point_at o r)) go.tables)
+      ap (filter (λ e. can_go (uncopied_program o lists) q e.kind)) go.edges
+      ∙ tables_stay (uncopied_program o lists) q (goes o (point_at o r)) go.tables
+      ∙ sym (tables_stay (uncopied_program o lists) r (goes o (point_at o r)) go.tables)
 
-  alike_edges : (q r : ℕ) → q < count_of o → Contains parts.alike.items q → IsAlike parts q r → edges_of (program_of o lists) q ≡ edges_of (program_of o lists) r
+  alike_edges : (q r : ℕ) → q < count_of o → Contains parts.alike.items q → IsAlike parts q r → edges_of (uncopied_program o lists) q ≡ edges_of (uncopied_program o lists) r
   alike_edges q r here c is =
       let first = first_of q here c in
       let one : edge first.0 Table ∷ [] ≡ edge r Table ∷ [] = sym first.2 ∙ is.edge in
       let same : first.0 ≡ r = ap (λ (es : List Edge). (get_or es 0 (edge 0 Table)).to) one in
-      subst (λ (k : ℕ). edges_of (program_of o lists) q ≡ edges_of (program_of o lists) k) same (same_edges q first.0 first.1)
+      subst (λ (k : ℕ). edges_of (uncopied_program o lists) q ≡ edges_of (uncopied_program o lists) k) same (same_edges q first.0 first.1)
 
   is_alike : (q : ℕ) → q < count_of o → Contains parts.alike.items q → IsAlike parts q (first_target parts q)
   is_alike q here c =
@@ -221,8 +221,8 @@ module _ (o : Coded) (lists : NameLists) (parts : GraphParts) (returns : Returns
       let at : first_target parts q ≡ first.0 = ap (λ (e : Edge). e.to) (first_in_range parts.edges.items (start_of parts q) (start_of parts (q + 1)) (edge first.0 Table) (edge 0 Table) first.2) in
       subst (IsAlike parts q) (sym at) (record { own = first.1.own; edge = first.2 })
 
-  pub parts_tell : Tells (program_of o lists) parts
-  unfolding program_of returning_graph graph_of
+  pub parts_tell : Tells (uncopied_program o lists) parts
+  unfolding uncopied_program returning_graph graph_of
   parts_tell = record {
     count = sym are.points.long;
     points = tells_point;

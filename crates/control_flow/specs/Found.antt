@@ -7,7 +7,7 @@ use Rattle.machine_defs.specs.declared.flow.EdgeKind.TheVariants.{Table}
 use Rattle.machine_defs.specs.Program.{edge}
 use Rattle.flow_defs.specs.Code.{point_at}
 use Rattle.flow_defs.specs.Edges.{goes}
-use Rattle.flow_defs.specs.Program.{program_of}
+use Rattle.flow_defs.specs.Program.{uncopied_program}
 use Rattle.program_graph.specs.declared.parts.Transfer.{Transfer}
 use Rattle.return_search.specs.declared.searched_flow.Exit.{Exit}
 use Rattle.return_search.specs.Told.{exit_of}
@@ -38,7 +38,7 @@ IsListed o n before after alike grown (Alike first) = ListsAlike o n first befor
 
 -- what point n is to a return
 pub record IsExit (o : Coded) (lists : NameLists) (n : ℕ) (exit : Exit) : Type 0 where
-  pub is : exit ≡ exit_of (program_of o lists) n
+  pub is : exit ≡ exit_of (uncopied_program o lists) n
   pub known : ExitCallsPoint o exit
 
 -- what is found of point n beside its edges

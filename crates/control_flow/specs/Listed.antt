@@ -11,7 +11,7 @@ use Rattle.machine_defs.specs.Program.{edge}
 use Rattle.flow_defs.specs.Arrival.{is_dead_end}
 use Rattle.flow_defs.specs.Code.{point_at, points_of_object}
 use Rattle.flow_defs.specs.Edges.{goes}
-use Rattle.flow_defs.specs.Program.{program_of}
+use Rattle.flow_defs.specs.Program.{uncopied_program}
 use Rattle.return_search.specs.declared.searched_flow.Exit.{Exit}
 use Rattle.return_search.specs.declared.searched_flow.Exit.TheVariants.{Calls}
 use Rattle.return_search.specs.Told.{exit_of}
@@ -35,7 +35,7 @@ ExitCallsPoint o exit = (entry : ℕ) → exit ≡ Calls entry → entry < count
 -- what the first n points are to a return
 pub record AreExits (o : Coded) (lists : NameLists) (exits : List Exit) (n : ℕ) : Type 0 where
   pub long : length exits ≡ n
-  pub each : (q : ℕ) (d : Exit) → q < n → slice_index_or exits q d ≡ exit_of (program_of o lists) q
+  pub each : (q : ℕ) (d : Exit) → q < n → slice_index_or exits q d ≡ exit_of (uncopied_program o lists) q
   pub known : All (ExitCallsPoint o) exits
 
 -- whether execution never passes the first n points

@@ -5,7 +5,7 @@ use Rattle.flow_defs.specs.Coded.{Coded}
 use Rattle.machine_defs.specs.Kept.{is_at_entry}
 use Rattle.flow_defs.specs.Arrival.{is_dead_end}
 use Rattle.flow_defs.specs.Code.{point_at}
-use Rattle.flow_defs.specs.Program.{program_of}
+use Rattle.flow_defs.specs.Program.{uncopied_program}
 use Rattle.flow_defs.specs.Switching.{insn_by}
 use Rattle.object_points.specs.Owners.{IsOwnerOf}
 use Rattle.program_graph.specs.Tells.{insn_of, place_of}
@@ -26,7 +26,7 @@ pub record IsKind (o : Coded) (lists : NameLists) (q : ℕ) (may_return : Bool) 
   pub transfer_number : transfer ≡ k.transfer
   pub dead_end : is_dead_end o (point_at o q) ≡ k.is_dead_end
   pub returns : may_return ≡ k.may_return
-  pub entered : (other : NameLists) → is_at_entry (program_of o other) q ≡ k.is_entered
+  pub entered : (other : NameLists) → is_at_entry (uncopied_program o other) q ≡ k.is_entered
 
 -- the kind of point q has a number among those after, and what few points have has one among theirs, where others keep the
 -- numbers that they had before

@@ -3,7 +3,7 @@ use Rattle.std.specs.Prelude.{◌≡◌, ℕ, List}
 use Rattle.ot_base.specs.NameLists.{NameLists}
 use Rattle.flow_defs.specs.Coded.{Coded}
 use Rattle.machine_defs.specs.declared.flow.Edge.{Edge}
-use Rattle.flow_defs.specs.Program.{program_of}
+use Rattle.flow_defs.specs.Program.{uncopied_program}
 use Rattle.return_search.specs.declared.searched_flow.Flow.{Flow}
 use Rattle.return_search.specs.declared.found_returns.Returns.{Returns}
 use Rattle.return_search.specs.Told.{TellsReturns}
@@ -13,4 +13,4 @@ pub record AreReturns (o : Coded) (lists : NameLists) (starts : List ℕ) (edges
   pub flow : Flow
   pub flow_starts : flow.starts.items ≡ starts
   pub flow_edges : flow.edges.items ≡ edges
-  pub told : TellsReturns (program_of o lists) flow returns
+  pub told : TellsReturns (uncopied_program o lists) flow returns

@@ -2,7 +2,7 @@
 
 ghost use Rattle.std.specs.Prelude.{◌≡◌, [], IfErr, IfOk, OnOk};
 ghost use Rattle.flow_defs.specs.Faults.{IsFirstFlowFault, flow_faults};
-ghost use Rattle.flow_defs.specs.Program.{program_of};
+ghost use Rattle.flow_defs.specs.Program.{program_of, uncopied_program};
 ghost use Rattle.program_graph.specs.Shape.{HaveShape};
 ghost use Rattle.program_graph.specs.Tells.{Tells};
 
@@ -15,17 +15,24 @@ use point_edges::FlowPoints;
 use program_graph::{Graph, GraphParts};
 use std::alloc::Global;
 
-/// The parts of the graph of the points of an object, which are given back.
-fn parts_of_places(
+/// The parts of a graph, with what copies of rsp make of its operations.
+fn with_copies(
     alloc: Global,
-    places: PointPlaces<'_, '_, '_>,
+    points: &FlowPoints<'_, '_, '_>,
     lists: &Lists,
+    parts: GraphParts,
 ) -> Result<GraphParts, NoMemory>
-    ensures tells { IfOk result (Tells (program_of places.entry lists.now)) }
+    requires tells { Tells (uncopied_program points.now lists.now) parts }
+    requires shape { HaveShape parts }
+    ensures tells { IfOk result (Tells (program_of points.now lists.now)) }
     ensures shape { IfOk result HaveShape }
 {
-    let points = FlowPoints::build(alloc, places)?;
-    parts_of(alloc, &points, lists)
+    program_is_right(points, lists);
+    if !asks_for_copies(&parts) {
+        return Ok(parts);
+    }
+    let losses = list_losses(alloc, points, lists)?;
+    add_copies(alloc, parts, &losses)
 }
 
 /// The graph of the points of an object.
@@ -36,7 +43,9 @@ fn graph_of(
 ) -> Result<Graph, NoMemory>
     ensures { IfOk result (λ graph. Tells (program_of places.entry lists.now) graph.parts) }
 {
-    Ok(Graph::new(parts_of_places(alloc, places, lists)?))
+    let points = FlowPoints::build(alloc, places)?;
+    let parts = parts_of(alloc, &points, lists)?;
+    Ok(Graph::new(with_copies(alloc, &points, lists, parts)?))
 }
 
 /// The control-flow graph of an object whose code is read, where functions, lists of places, static branches, calls within

@@ -3,7 +3,7 @@
 ghost use Rattle.std.specs.Prelude.{◌≡◌, ◌+◌, ◌<◌, ◌&&◌, false, is_none};
 ghost use Rattle.flow_defs.specs.Arrival.{insn_of_object, is_dead_end};
 ghost use Rattle.flow_defs.specs.Code.{point_at};
-ghost use Rattle.flow_defs.specs.Program.{is_marked_call as is_a_marked_call, program_of};
+ghost use Rattle.flow_defs.specs.Program.{is_marked_call as is_a_marked_call, uncopied_program};
 ghost use Rattle.flow_defs.specs.Roles.{role_of};
 ghost use Rattle.return_search.specs.Told.{call_exit, exit_of};
 ghost use Rattle.machine_defs.specs.MayReturn.{is_listed as is_a_listed_call, is_listed_by, is_listed_symbol};
@@ -36,7 +36,7 @@ fn is_listed_function(
 ) -> bool
     requires point { n < count_of places.now }
     requires known { AreLookedUp places.now.elf lists.now known.old.items }
-    ensures is { let p = program_of places.now lists.now in result ≡ is_listed_symbol p (p.function n) }
+    ensures is { let p = uncopied_program places.now lists.now in result ≡ is_listed_symbol p (p.function n) }
     ensures known { AreLookedUp places.now.elf lists.now known.new.items }
 {
     match places.function(n) {
@@ -54,7 +54,7 @@ fn is_listed_by_name(
 ) -> bool
     requires point { n < count_of places.now }
     requires known { AreLookedUp places.now.elf lists.now known.old.items }
-    ensures is { let p = program_of places.now lists.now in result ≡ is_listed_symbol p (p.names n) }
+    ensures is { let p = uncopied_program places.now lists.now in result ≡ is_listed_symbol p (p.names n) }
     ensures known { AreLookedUp places.now.elf lists.now known.new.items }
 {
     match names(places, n) {
@@ -74,7 +74,7 @@ fn is_listed_free_code(
     requires point { n < count_of places.now }
     requires entry { entry < count_of places.now }
     requires known { AreLookedUp places.now.elf lists.now known.old.items }
-    ensures is { let p = program_of places.now lists.now in result ≡ (is_none (p.owner entry) && is_listed_symbol p (p.names n)) }
+    ensures is { let p = uncopied_program places.now lists.now in result ≡ (is_none (p.owner entry) && is_listed_symbol p (p.names n)) }
     ensures known { AreLookedUp places.now.elf lists.now known.new.items }
 {
     if places.owner(entry).is_some() {
@@ -95,7 +95,7 @@ fn is_listed_entry(
     requires point { n < count_of places.now }
     requires entry { entry < count_of places.now }
     requires known { AreLookedUp places.now.elf lists.now known.old.items }
-    ensures is { let p = program_of places.now lists.now in result ≡ is_listed_by p (p.names n) (Role.CallIn entry) }
+    ensures is { let p = uncopied_program places.now lists.now in result ≡ is_listed_by p (p.names n) (Role.CallIn entry) }
     ensures known { AreLookedUp places.now.elf lists.now known.new.items }
 {
     is_listed_function(places, lists, known, entry)
@@ -113,7 +113,7 @@ fn is_listed_call(
     requires point { n < count_of places.now }
     requires role { CallsPoint places.now role }
     requires known { AreLookedUp places.now.elf lists.now known.old.items }
-    ensures is { let p = program_of places.now lists.now in result ≡ is_listed_by p (p.names n) role }
+    ensures is { let p = uncopied_program places.now lists.now in result ≡ is_listed_by p (p.names n) role }
     ensures known { AreLookedUp places.now.elf lists.now known.new.items }
 {
     let object = places.linked().object();
@@ -158,7 +158,7 @@ fn is_listed(
     requires calls { CallsPoint places.now role }
     requires marked { is_marked ≡ is_a_marked_call places.now (point_at places.now n) }
     requires known { AreLookedUp places.now.elf lists.now known.old.items }
-    ensures is { result ≡ is_a_listed_call (program_of places.now lists.now) n }
+    ensures is { result ≡ is_a_listed_call (uncopied_program places.now lists.now) n }
     ensures known { AreLookedUp places.now.elf lists.now known.new.items }
 {
     if is_marked {
@@ -192,7 +192,7 @@ pub(crate) fn exit(
     requires role { role ≡ role_of points.now (point_at points.now n) }
     requires calls { CallsPoint points.now role }
     requires known { AreLookedUp points.now.elf lists.now known.old.items }
-    ensures is { result ≡ exit_of (program_of points.now lists.now) n }
+    ensures is { result ≡ exit_of (uncopied_program points.now lists.now) n }
     ensures known { AreLookedUp points.now.elf lists.now known.new.items }
 {
     let places = points.places();

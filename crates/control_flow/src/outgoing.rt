@@ -7,7 +7,7 @@ ghost use Rattle.flow_defs.specs.Coded.{Coded};
 ghost use Rattle.flow_defs.specs.Arrival.{insn_of_object, is_dead_end};
 ghost use Rattle.flow_defs.specs.Code.{point_at};
 ghost use Rattle.flow_defs.specs.Edges.{goes};
-ghost use Rattle.flow_defs.specs.Program.{program_of};
+ghost use Rattle.flow_defs.specs.Program.{uncopied_program};
 ghost use Rattle.flow_defs.specs.Roles.{returns_through, role_of};
 ghost use Rattle.flow_defs.specs.Targets.{destination_of};
 ghost use Rattle.point_edges.specs.Jumps.{direct_way};

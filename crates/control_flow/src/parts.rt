@@ -1,7 +1,7 @@
 //! The parts of the graph of an object's points. They are made by three functions, each of which gives back few of them.
 
 ghost use Rattle.std.specs.Prelude.{◌≡◌, ◌<◌, ◌^◌, ℕ, All, IfOk, length, map};
-ghost use Rattle.flow_defs.specs.Program.{program_of, text_sections_of, unsized_of};
+ghost use Rattle.flow_defs.specs.Program.{uncopied_program, text_sections_of, unsized_of};
 ghost use Rattle.flow_defs.specs.Sites.{sites_of};
 ghost use Rattle.symbols_relocs.specs.Covers.{is_linked as is_linked_object};
 ghost use Rattle.program_graph.specs.Shape.{HaveShape};
@@ -133,7 +133,7 @@ pub(crate) fn parts_of(
     points: &FlowPoints<'_, '_, '_>,
     lists: &Lists,
 ) -> Result<GraphParts, NoMemory>
-    ensures tells { IfOk result (Tells (program_of points.now lists.now)) }
+    ensures tells { IfOk result (Tells (uncopied_program points.now lists.now)) }
     ensures shape { IfOk result HaveShape }
 {
     let edges = edge_parts(alloc, points, lists)?;

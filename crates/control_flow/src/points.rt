@@ -3,7 +3,7 @@
 ghost use Rattle.std.specs.Prelude.{◌≡◌, ◌<◌, ◌^◌, ◌↔◌, true, false, IfOk, IsTrue, length};
 ghost use Rattle.ot_base.specs.NameLists.{NameLists};
 ghost use Rattle.machine_defs.specs.Kept.{is_at_entry};
-ghost use Rattle.flow_defs.specs.Program.{program_of};
+ghost use Rattle.flow_defs.specs.Program.{uncopied_program};
 ghost use Rattle.object_law.specs.Flows.{ObjectIsInOrder};
 ghost use Rattle.return_search.specs.Shape.{HaveShape};
 ghost use Rattle.control_flow.specs.Listed.{AreEntered, count_of};
@@ -47,7 +47,7 @@ fn kind_of(
 ) -> Result<PointKind, NoMemory>
     requires switching { AreSwitching points.now switching.lists.now switching.extents.now }
     requires point { n < count_of points.now }
-    requires entered { (lists : NameLists) → is_at_entry (program_of points.now lists) n ≡ told.is_entered }
+    requires entered { (lists : NameLists) → is_at_entry (uncopied_program points.now lists) n ≡ told.is_entered }
     ensures { IfOk result (IsKind points.now switching.entry.lists.now n told.may_return rare told.transfer) }
 {
     let insn = insn(alloc, points, switching, n)?;
@@ -67,7 +67,7 @@ fn is_entered(points: &FlowPoints<'_, '_, '_>, returns: &Returns, n: u32) -> boo
     requires point { n < count_of points.now }
     requires returns { HaveShape (count_of points.now) returns.now }
     requires entered { AreEntered points.now returns.now.entered.items (count_of points.now) }
-    ensures { (lists : NameLists) → is_at_entry (program_of points.now lists) n ≡ result }
+    ensures { (lists : NameLists) → is_at_entry (uncopied_program points.now lists) n ≡ result }
 {
     if !returns.entered[n as usize].is_some() {
         return false;
@@ -105,7 +105,7 @@ fn look_up_kind(
     requires switching { AreSwitching points.now switching.lists.now switching.extents.now }
     requires order { ObjectIsInOrder points.now }
     requires point { n < count_of points.now }
-    requires entered { (lists : NameLists) → is_at_entry (program_of points.now lists) n ≡ told.is_entered }
+    requires entered { (lists : NameLists) → is_at_entry (uncopied_program points.now lists) n ≡ told.is_entered }
     requires some { 0 < length shared.old.rares.rares.items }
     requires few { length shared.old.rares.rares.items < 2 ^ 32 }
     requires few_hinted { length shared.old.rares.hinted.items < 2 ^ 32 }
@@ -134,7 +134,7 @@ fn number_kind(
     requires order { ObjectIsInOrder points.now }
     requires point { n < count_of points.now }
     requires insns { AreDecoded points.now insns.kinds.now insns.numbers.now }
-    requires entered { (lists : NameLists) → is_at_entry (program_of points.now lists) n ≡ told.is_entered }
+    requires entered { (lists : NameLists) → is_at_entry (uncopied_program points.now lists) n ≡ told.is_entered }
     requires usual { AreUsual insns.kinds.now shared.old.kinds.kinds.items shared.old.kinds.stay.items (length insns.kinds.now) }
     requires some { 0 < length shared.old.rares.rares.items }
     requires few { length shared.old.rares.rares.items < 2 ^ 32 }

@@ -2,7 +2,7 @@
 
 ghost use Rattle.std.specs.Prelude.{◌≡◌, ◌<◌, ◌^◌, ℕ, List, IfOk};
 ghost use Rattle.machine_defs.specs.IsProgram.{IsProgram};
-ghost use Rattle.flow_defs.specs.Program.{program_of};
+ghost use Rattle.flow_defs.specs.Program.{uncopied_program};
 ghost use Rattle.return_search.specs.Shape.{HasShape, HaveShape, points_of};
 ghost use Rattle.return_search.specs.Told.{TellsFlow};
 ghost use Rattle.control_flow.specs.Listed.{AreDeadEnds, AreEdges, AreEntered, AreExits, count_of};
@@ -18,7 +18,7 @@ use std::alloc::Global;
 
 /// The law that the program of an object whose code is read has what is asked of programs.
 fn program_is_right(points: &FlowPoints<'_, '_, '_>, lists: &Lists)
-    ensures { IsProgram (program_of points.now lists.now) }
+    ensures { IsProgram (uncopied_program points.now lists.now) }
 {
     program_is_one();
     object_is_in_order(points.places().linked());
@@ -37,7 +37,7 @@ fn flow_of(
     requires exits { AreExits points.now lists.now exits.items (count_of points.now) }
     requires dead_ends { AreDeadEnds points.now dead_ends.items (count_of points.now) }
     requires few { count_of points.now < 2 ^ 32 }
-    ensures told { IfOk result (TellsFlow (program_of points.now lists.now)) }
+    ensures told { IfOk result (TellsFlow (uncopied_program points.now lists.now)) }
     ensures listed { IfOk result (λ flow. (flow.starts ≡ list.starts) × (flow.edges ≡ list.edges)) }
     ensures shape { IfOk result HasShape }
     ensures count { IfOk result (λ flow. points_of flow ≡ count_of points.now) }

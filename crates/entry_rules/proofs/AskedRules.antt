@@ -3,7 +3,7 @@ use Rattle.std.proofs.Common.{◌≡◌, ◌↔◌, Bool, true, false, not, List
 use Rattle.ot_base.specs.declared.warning.Warning.{Warning}
 use Rattle.flow_defs.specs.Code.{points_of_object}
 use Rattle.flow_defs.specs.Coded.{Coded}
-use Rattle.flow_defs.specs.Program.{graph_of, program_of, returning_graph}
+use Rattle.flow_defs.specs.Program.{graph_of, program_of, returning_graph, uncopied_program}
 use Rattle.machine_defs.specs.Program.{Program}
 use Rattle.program_graph.specs.declared.parts.GraphParts.{GraphParts}
 use Rattle.stack_rules.specs.Gains.{Gains}
@@ -16,7 +16,7 @@ use Rattle.entry_rules.proofs.RuleWarnings.{AskedWarns}
 
 -- the points of a graph are those of the object
 pub points_listed : (o : Coded) (parts : GraphParts) → IsGraphOf o parts → length parts.points.items ≡ length (points_of_object o)
-unfolding program_of returning_graph graph_of
+unfolding program_of uncopied_program returning_graph graph_of
 points_listed o parts g = sym g.tells.count
 
 is_on : (b : Bool) → not b ≡ false → b ≡ true

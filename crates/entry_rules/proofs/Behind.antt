@@ -16,7 +16,7 @@ use Rattle.flow_defs.specs.Arrival.{decoded_insn}
 use Rattle.flow_defs.specs.Code.{no_point, point_at, points_of_object}
 use Rattle.flow_defs.specs.Coded.{Coded}
 use Rattle.flow_defs.specs.Switching.{around_by, insn_by}
-use Rattle.flow_defs.specs.Program.{graph_of, program_of, returning_graph}
+use Rattle.flow_defs.specs.Program.{graph_of, program_of, returning_graph, uncopied_program}
 use Rattle.unwinding_law.proofs.Lists.{from_below, in_below}
 use Rattle.entry_rules.specs.EntryWarns.{is_before_int3, is_int3}
 
@@ -45,7 +45,7 @@ module _ (o : Coded) (lists : NameLists) (n : ℕ) where
       && is_int3 (made (around_by o lists (point_at o r)) (decoded_insn o (point_at o r)).op)
 
   tested : list_any test (below (length (points_of_object o))) ≡ is_before_int3 (program_of o lists) n
-  unfolding program_of returning_graph graph_of insn_by test
+  unfolding program_of uncopied_program returning_graph graph_of insn_by test
   tested = refl
 
   points_alike : (a b : Point) → a.variant ≡ b.variant → a.place.sec ≡ b.place.sec → a.place.off ≡ b.place.off → a ≡ b

@@ -8,7 +8,7 @@ use Rattle.alternatives.specs.Points.{address_of_point, entry_of}
 use Rattle.alternatives.specs.Texts.{behind}
 use Rattle.flow_defs.specs.Code.{alternatives_of, is_plain, number_of, point_at, points_of_object}
 use Rattle.flow_defs.specs.Coded.{Coded}
-use Rattle.flow_defs.specs.Program.{entries_of, graph_of, is_entry_point, program_of, returning_graph}
+use Rattle.flow_defs.specs.Program.{entries_of, graph_of, is_entry_point, program_of, returning_graph, uncopied_program}
 use Rattle.unwinding_law.proofs.Lists.{from_filter}
 use Rattle.table_law.proofs.Lists.{from_filter_map}
 use Rattle.object_law.proofs.Functions.{has_functions}
@@ -29,7 +29,7 @@ runs_at : (o : Coded) (point : Point) → is_plain point ≡ true → address_of
 runs_at o point plain = let a = entry_of (alternatives_of o) point.variant in ap (λ b. cond b point.place (behind a.original (point.place.off - a.replacement.off))) plain
 
 pub arrives_at_places : (o : Coded) (lists : NameLists) → ArrivesAtPlaces (program_of o lists)
-unfolding program_of returning_graph graph_of
+unfolding program_of uncopied_program returning_graph graph_of
 arrives_at_places o lists = record {
   arrivals = λ place q comes. arrives_at o place q comes;
   entries = λ entry c. (has_functions o lists).points entry c;

@@ -7,7 +7,7 @@ use Rattle.ot_base.specs.declared.place.Place.{Place}
 use Rattle.ot_base.specs.declared.rules.TheConstants.{TAKEN_WITHOUT_ENDBR}
 use Rattle.ot_base.specs.declared.warning.Warning.{Warning}
 use Rattle.flow_defs.specs.Coded.{Coded}
-use Rattle.flow_defs.specs.Program.{graph_of, program_of, returning_graph}
+use Rattle.flow_defs.specs.Program.{graph_of, program_of, returning_graph, uncopied_program}
 use Rattle.machine_defs.specs.Program.{entry_points}
 use Rattle.point_edges.specs.Entered.{IsEnteredAt}
 use Rattle.object_points.specs.Places.{is_among}
@@ -22,16 +22,16 @@ use Rattle.taken_places.specs.Taken.{excused_places, taken_places}
 module _ (o : Coded) (lists : NameLists) (n : ℕ) where
   -- an entry of the program at which control may come to stand at the point
   pub enters : (entry : ℕ) → Contains (program_of o lists).entries entry → Contains (entry_points (program_of o lists) entry) n → IsEnteredAt o entry n
-  unfolding program_of returning_graph graph_of
+  unfolding program_of uncopied_program returning_graph graph_of
   enters entry listed stands = record { listed = listed; stands = stands }
 
   pub entered : (entry : ℕ) → IsEnteredAt o entry n → Contains (program_of o lists).entries entry × Contains (entry_points (program_of o lists) entry) n
-  unfolding program_of returning_graph graph_of
+  unfolding program_of uncopied_program returning_graph graph_of
   entered entry h = (h.listed, h.stands)
 
   -- the address of an entry is taken where its place is among those that are, and not among those that are excused
   pub taken_at : (entry : ℕ) → (facts_of o).taken entry ≡ (is_among (taken_places o) ((program_of o lists).place entry) && not (is_among (excused_places o.elf) ((program_of o lists).place entry)))
-  unfolding facts_of program_of returning_graph graph_of
+  unfolding facts_of program_of uncopied_program returning_graph graph_of
   taken_at entry = refl
 
   -- at an ENDBR, and where there is no such entry, nothing is warned of

@@ -17,7 +17,7 @@ use Rattle.elf_objects.specs.Contents.{is_text, section_at}
 use Rattle.elf_objects.specs.Elf.{Elf}
 use Rattle.flow_defs.specs.Code.{text_numbers}
 use Rattle.flow_defs.specs.Coded.{Coded}
-use Rattle.flow_defs.specs.Program.{graph_of, program_of, returning_graph, text_sections_of}
+use Rattle.flow_defs.specs.Program.{graph_of, program_of, returning_graph, text_sections_of, uncopied_program}
 use Rattle.machine_defs.specs.Program.{Program}
 use Rattle.machine_defs.specs.Rows.{place_in, placed, row_at, rows_of, section_rows, with_end, without_repeats}
 use Rattle.table_defs.specs.Order.{ComesBefore}
@@ -122,5 +122,5 @@ sections_rise o = mapped (text_numbers o) (rising-filter (λ i j. i < j) (λ i. 
     mapped (x ∷ xs) r = (every-map (λ (u : TextSection). x < u.sec) (λ i. let t : TextSection = record { sec = i; size = (section_at o i).size } in t) xs r.0, mapped xs r.1)
 
 pub rows_ascend : (o : Coded) (lists : NameLists) (states : ℕ → Option State) → AllPairs Before (rows_of (program_of o lists) states)
-unfolding program_of returning_graph graph_of
+unfolding program_of uncopied_program returning_graph graph_of
 rows_ascend o lists states = to_pairs Before (rows_of (program_of o lists) states) (texts_ascend (program_of o lists) states (program_of o lists).texts (sections_rise o.elf))

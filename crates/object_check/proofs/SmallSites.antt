@@ -18,7 +18,7 @@ use Rattle.machine_defs.specs.Program.{Site}
 use Rattle.program_graph.specs.declared.parts.GraphParts.{GraphParts}
 use Rattle.program_graph.specs.Tells.{site_of}
 use Rattle.flow_defs.specs.Code.{alternatives_of, body_of, text_numbers}
-use Rattle.flow_defs.specs.Program.{graph_of, program_of, returning_graph}
+use Rattle.flow_defs.specs.Program.{graph_of, program_of, returning_graph, uncopied_program}
 use Rattle.flow_defs.specs.Sites.{sites_of}
 use Rattle.object_law.specs.Flows.{ObjectIsInOrder}
 use Rattle.object_law.proofs.Bodies.{cut_within}
@@ -53,7 +53,7 @@ site_small o site order listed =
     omega (arith, ends, small, len)
 
 pub small_sites : (o : Coded) (lists : NameLists) (parts : GraphParts) → length o.elf.bytes ≤ 67108864 → IsGraphOf o lists parts → HasSmallSites parts
-unfolding program_of returning_graph graph_of
+unfolding program_of uncopied_program returning_graph graph_of
 small_sites o lists parts short is =
     all_of (λ site. site.len < 2 ^ 63) parts.sites.items
     (λ x c.

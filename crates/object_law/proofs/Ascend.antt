@@ -16,7 +16,7 @@ use Rattle.alternatives.proofs.Ascending.{Rising, every-map, every-weaker, risin
 use Rattle.alternatives.proofs.Listing.{points_sorted}
 use Rattle.alternatives.proofs.Placed.{RiseBySection}
 use Rattle.flow_defs.specs.Code.{alternatives_of, body_of, no_point, point_at, points_of_object, text_numbers, texts_of}
-use Rattle.flow_defs.specs.Program.{graph_of, program_of, returning_graph}
+use Rattle.flow_defs.specs.Program.{graph_of, program_of, returning_graph, uncopied_program}
 
 -- what is made of elements that rise rises
 rising_map : {X Y : Type 0} (R : X → X → Type 0) (S : Y → Y → Type 0) (f : X → Y) → ((x y : X) → R x y → S (f x) (f y)) → (xs : List X) → Rising R xs → Rising S (map f xs)
@@ -61,7 +61,7 @@ before_by_place a b c d e f variant less = by_sec (cases_lt a b) (cases_lt b a)
     by_sec (inr late) (inr early) = let same : a ≡ b = omega arith in inr (same, by_off same (cases_lt c d) (cases_lt d c))
 
 pub points_ascend : (o : Coded) (lists : NameLists) → PlainPointsAscend (program_of o lists)
-unfolding program_of returning_graph graph_of points_of_object
+unfolding program_of uncopied_program returning_graph graph_of points_of_object
 points_ascend o lists q r of-q of-r one other less =
     let a = point_at o q in
     let b = point_at o r in

@@ -26,7 +26,7 @@ use Rattle.flow_defs.specs.Roles.{jump_by_table, jump_by_way, jump_role, returns
 use Rattle.flow_defs.specs.Switching.{insn_by, loads_stack_of}
 use Rattle.operation_defs.specs.Made.{Around, made}
 use Rattle.flow_defs.specs.Edges.{branch_edges, edges_to, ends_flow, fixups, goes, goes_on, is_some_place, listed_edges, next_edges, static_targets, table_edges}
-use Rattle.flow_defs.specs.Program.{entries_of, graph_of, is_entry_point, program_of, returning_graph}
+use Rattle.flow_defs.specs.Program.{entries_of, graph_of, is_entry_point, program_of, returning_graph, uncopied_program}
 use Rattle.object_law.proofs.Levels.{and_true}
 use Rattle.object_law.proofs.Numbers.{numbers_are}
 use Rattle.object_law.proofs.Owners.{arriving_owner, entry_is}
@@ -100,21 +100,21 @@ next_goes o point r checked on c =
 module _ (o : Coded) (lists : NameLists) where
   -- the role of a call is that of a call instruction
   pub calls : (q : ℕ) → IsPoint (program_of o lists) q → is_call ((program_of o lists).role q) ≡ true → is_call_op ((program_of o lists).insn q).op ≡ true
-  unfolding program_of returning_graph graph_of insn_by insn_of_object
+  unfolding program_of uncopied_program returning_graph graph_of insn_by insn_of_object
   calls q here e =
       let point = point_at o q in
       calls_as_made (around o point) (loads_stack_of o lists point) (decoded_insn o point).op (call_role_op o point e)
 
   -- the points that follow a call which execution passes are its next points
   pub call_next : (q r : ℕ) → IsPoint (program_of o lists) q → (program_of o lists).unchecked q ≡ false → is_call ((program_of o lists).role q) ≡ true → (program_of o lists).dead_end q ≡ false → Contains ((program_of o lists).after q) r → Contains ((program_of o lists).goes q) (edge r Next)
-  unfolding program_of returning_graph graph_of
+  unfolding program_of uncopied_program returning_graph graph_of
   call_next q r here checked call alive c =
       let point = point_at o q in
       next_goes o point r checked (passes_on o point (call_goes_on (insn_of_object o point).op (call_role_op o point call)) alive) c
 
   -- no entry is in an unchecked function
   pub entries_checked : (entry q : ℕ) → Contains (program_of o lists).entries entry → Contains (entry_points (program_of o lists) entry) q → (program_of o lists).unchecked q ≡ false
-  unfolding program_of returning_graph graph_of entries_of
+  unfolding program_of uncopied_program returning_graph graph_of entries_of
   entries_checked entry q listed arrives =
       let point = point_at o entry in
       let own = from_filter (is_entry_point o) (points_of_object o) point (numbers_are o _ entry listed).1 in
@@ -123,7 +123,7 @@ module _ (o : Coded) (lists : NameLists) where
   -- control that comes to a plain point stands in code of its owner
   pub arrives_owned : (q r : ℕ) → IsPoint (program_of o lists) q → (program_of o lists).variant q ≡ 0 → Contains (entry_points (program_of o lists) q) r
       → ((program_of o lists).owner r ≡ (program_of o lists).owner q) × ((program_of o lists).unchecked r ≡ (program_of o lists).unchecked q)
-  unfolding program_of returning_graph graph_of
+  unfolding program_of uncopied_program returning_graph graph_of
   arrives_owned q r here plain arrives =
       let at : address_of_point (alternatives_of o) (point_at o q) ≡ (point_at o q).place = address_plain o (point_at o q) plain in
       let same : owner_of_point o (point_at o r) ≡ owner_of_point o (point_at o q) = arriving_owner o (point_at o q).place r arrives ∙ ap (owner_at o.elf) (sym at) in

@@ -27,7 +27,7 @@ use Rattle.flow_defs.specs.Code.{alternatives_of, point_at, texts_of}
 use Rattle.flow_defs.specs.Arrival.{decoded_insn}
 use Rattle.flow_defs.specs.Decoded.{no_insn}
 use Rattle.flow_defs.specs.Switching.{around_by, insn_by}
-use Rattle.flow_defs.specs.Program.{graph_of, program_of, returning_graph}
+use Rattle.flow_defs.specs.Program.{graph_of, program_of, returning_graph, uncopied_program}
 use Rattle.object_law.specs.Flows.{HasBytes}
 use Rattle.object_law.proofs.Signed.{decoded_fits}
 
@@ -101,5 +101,5 @@ found_fits o point are = go (insn_of_point (texts_of o) (alternatives_of o) poin
 
 -- numbers in operations have 64 bits
 pub numbers : (o : Coded) (lists : NameLists) → HasBytes o → (q : ℕ) → IsPoint (program_of o lists) q → HasSignedNumber ((program_of o lists).insn q).op
-unfolding program_of returning_graph graph_of insn_by
+unfolding program_of uncopied_program returning_graph graph_of insn_by
 numbers o lists are q here = let point = point_at o q in made_fits (around_by o lists point) (decoded_insn o point).op (found_fits o point are)

@@ -21,7 +21,7 @@ use Rattle.flow_defs.specs.Code.{alternatives_of, body_of, is_plain, plain_point
 use Rattle.flow_defs.specs.Owners.{is_entry}
 use Rattle.flow_defs.specs.Arrival.{arrive, decoded_insn}
 use Rattle.flow_defs.specs.Faults.{flow_faults, is_no_start, start_faults}
-use Rattle.flow_defs.specs.Program.{entries_of, graph_of, is_entry_point, program_of, returning_graph}
+use Rattle.flow_defs.specs.Program.{entries_of, graph_of, is_entry_point, program_of, returning_graph, uncopied_program}
 use Rattle.flow_defs.specs.Sites.{is_past_start, places_of, places_of_text, site_holding, sites_of}
 use Rattle.object_law.specs.Flows.{ObjectIsInOrder}
 use Rattle.object_law.proofs.Bodies.{at_lies}
@@ -108,7 +108,7 @@ module _ (o : Coded) (lists : NameLists) (order : ObjectIsInOrder o) (right : fl
       (subst (λ (r : ℕ). Contains (arrive o place) r) is own.arrives, λ r c. arrives_at o place r c)
 
   pub enters_sites : EntersSites (program_of o lists)
-  unfolding program_of returning_graph graph_of
+  unfolding program_of uncopied_program returning_graph graph_of
   enters_sites = record {
     edges = λ q r kind site here c listed inside. edges_enter o lists order q here (edge r kind) site c listed inside;
     entries = λ entry q site c arrives listed inside. entries_enter entry q site c arrives listed inside;

@@ -14,7 +14,7 @@ use Rattle.table_law.proofs.Lists.{from_filter_map}
 use Rattle.flow_defs.specs.Arrival.{arrive}
 use Rattle.flow_defs.specs.Code.{alternatives_of, is_plain, number_of, point_at, points_of_object}
 use Rattle.flow_defs.specs.Owners.{function_of_point, is_entry}
-use Rattle.flow_defs.specs.Program.{entries_of, graph_of, is_entry_point, program_of, returning_graph}
+use Rattle.flow_defs.specs.Program.{entries_of, graph_of, is_entry_point, program_of, returning_graph, uncopied_program}
 use Rattle.object_law.proofs.Levels.{and_true}
 use Rattle.object_law.proofs.Numbers.{numbered}
 use Rattle.object_law.proofs.Owners.{arrives_at, entry_is, function_here}
@@ -58,7 +58,7 @@ runs_alike o entry q c comes =
     arrives_at o point.place q comes ∙ sym (runs_at o point (at_entry o entry c).plain)
 
 pub has_functions : (o : Coded) (lists : NameLists) → EntersFunctions (program_of o lists)
-unfolding program_of returning_graph graph_of
+unfolding program_of uncopied_program returning_graph graph_of
 has_functions o lists = record {
   points = λ entry c. is_point o entry c;
   entries = λ entry c. starts o entry c;

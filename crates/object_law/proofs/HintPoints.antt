@@ -27,7 +27,7 @@ use Rattle.special_sections.specs.HintStates.{hint_at, hint_state}
 use Rattle.table_law.proofs.Lists.{finds}
 use Rattle.flow_defs.specs.Code.{no_point, points_of_object}
 use Rattle.flow_defs.specs.Arrival.{hint_of, is_padding, own_hint_of}
-use Rattle.flow_defs.specs.Program.{graph_of, program_of, returning_graph}
+use Rattle.flow_defs.specs.Program.{graph_of, program_of, returning_graph, uncopied_program}
 use Rattle.object_law.specs.Flows.{ObjectIsInOrder}
 use Rattle.object_law.proofs.HintStates.{IsRightEntry, from_reverse, reason_none, right_entry_of, same_hint_place}
 use Rattle.object_law.proofs.Levels.{and_true}
@@ -84,7 +84,7 @@ none_nowhere o found order is = go (is_padding o no_point) is
     go false e = false≢true (sym (first_not_text o.elf order.object) ∙ hint_in_text o no_point.place found order (some_own (hint_at (special_of o.elf).hints no_point.place) found e))
 
 pub hint_points : (o : Coded) (lists : NameLists) → ObjectIsInOrder o → HintsStandAtPoints (program_of o lists)
-unfolding program_of returning_graph graph_of
+unfolding program_of uncopied_program returning_graph graph_of
 hint_points o lists order q found is = elim (cases_lt q (length (points_of_object o))) [
   | inl here ↦ here
   | inr beyond ↦ absurd (none_nowhere o found order (ap (hint_of o) (sym (get_or_past (points_of_object o) q no_point beyond)) ∙ is))

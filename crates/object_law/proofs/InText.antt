@@ -24,7 +24,7 @@ use Rattle.unwinding_law.proofs.Lists.{from_filter, in_map}
 use Rattle.flow_defs.specs.Code.{alternatives_of, body_of, point_at, points_of_object, text_numbers}
 use Rattle.flow_defs.specs.Arrival.{decoded_insn}
 use Rattle.flow_defs.specs.Switching.{insn_by}
-use Rattle.flow_defs.specs.Program.{graph_of, program_of, returning_graph, text_sections_of}
+use Rattle.flow_defs.specs.Program.{graph_of, program_of, returning_graph, text_sections_of, uncopied_program}
 use Rattle.object_law.specs.Flows.{ObjectIsInOrder}
 use Rattle.object_law.proofs.Bodies.{at_lies, cut_within}
 use Rattle.object_law.proofs.EntryFacts.{entry_is}
@@ -86,7 +86,7 @@ runs : (o : Coded) (q : ℕ) → ObjectIsInOrder o → q < length (points_of_obj
 runs o q order here = runs_in o (point_at o q) (decoded_insn o (point_at o q)) order (point_is o q order.bytes here)
 
 pub in_text : (o : Coded) (lists : NameLists) → ObjectIsInOrder o → IsInText (program_of o lists)
-unfolding program_of returning_graph graph_of insn_by text_sections_of
+unfolding program_of uncopied_program returning_graph graph_of insn_by text_sections_of
 in_text o lists order = record {
   lengths = λ q here. (runs o q order here).some;
   within = λ q here. (

@@ -27,7 +27,7 @@ use Rattle.flow_defs.specs.Code.{alternatives_of, is_plain, number_of, point_at,
 use Rattle.flow_defs.specs.Owners.{is_entry, owner_of_point}
 use Rattle.flow_defs.specs.Arrival.{decoded_insn, for_replacements, hint_of, is_first_of_replacement, is_padding, own_hint_of, start_hint_of}
 use Rattle.flow_defs.specs.Hints.{is_nearer, is_restore, is_save, is_save_before, nearest, save_of, saves_before}
-use Rattle.flow_defs.specs.Program.{entries_of, graph_of, is_entry_point as is_entry_of, program_of, returning_graph}
+use Rattle.flow_defs.specs.Program.{entries_of, graph_of, is_entry_point as is_entry_of, program_of, returning_graph, uncopied_program}
 use Rattle.object_law.specs.Flows.{ObjectIsInOrder}
 use Rattle.object_law.proofs.EntryFacts.{counted_inside}
 use Rattle.object_law.proofs.HintPoints.{hint_points}
@@ -133,7 +133,7 @@ module _ (o : Coded) where
 
 -- so a state begins in such a section, and stays in such
 named_on : (o : Coded) (lists : NameLists) → ObjectIsInOrder o → IsHandedOn (program_of o lists) (λ q. IsNamed o ((program_of o lists).address q).sec)
-unfolding program_of returning_graph graph_of
+unfolding program_of uncopied_program returning_graph graph_of
 named_on o lists order = record {
   entry = λ q is. (
       let p = program_of o lists in

@@ -36,7 +36,7 @@ use Rattle.table_law.proofs.Lists.{finds_one}
 use Rattle.flow_defs.specs.Code.{alternatives_of, body_of, no_point, plain_point, point_at, points_of_object, text_numbers, texts_of}
 use Rattle.flow_defs.specs.Arrival.{decoded_insn}
 use Rattle.flow_defs.specs.Switching.{insn_by}
-use Rattle.flow_defs.specs.Program.{graph_of, program_of, returning_graph, text_sections_of}
+use Rattle.flow_defs.specs.Program.{graph_of, program_of, returning_graph, text_sections_of, uncopied_program}
 use Rattle.flow_defs.specs.Sites.{site_of_entry}
 use Rattle.object_law.specs.Flows.{ObjectIsInOrder}
 use Rattle.object_law.proofs.Bodies.{IsCutIn, before_cut, before_other, text_of}
@@ -193,7 +193,7 @@ ends_in_site o point insn site order is own inside = elim (variant_is point) [
 ]
 
 pub laid_out : (o : Coded) (lists : NameLists) → ObjectIsInOrder o → IsLaidOut (program_of o lists)
-unfolding program_of returning_graph graph_of insn_by text_sections_of
+unfolding program_of uncopied_program returning_graph graph_of insn_by text_sections_of
 laid_out o lists order = record {
   in_text = in_text o lists order;
   plain = λ q here variant. address_plain o (point_at o q) variant;

@@ -32,7 +32,7 @@ use Rattle.unwinding_law.proofs.Lists.{all_of, from_filter, from_flat_map}
 use Rattle.table_law.proofs.Sections.{end_row, from_ended, left_is_row, rows_left}
 use Rattle.orc_bytes.specs.RowBytes.{IsRow}
 use Rattle.flow_defs.specs.Code.{text_numbers}
-use Rattle.flow_defs.specs.Program.{graph_of, program_of, returning_graph, text_sections_of}
+use Rattle.flow_defs.specs.Program.{graph_of, program_of, returning_graph, text_sections_of, uncopied_program}
 use Rattle.object_law.proofs.Owners.{from_map}
 use Rattle.object_law.specs.Rows.{IsPlacedRow}
 use Rattle.object_law.proofs.FitRows.{row_fits, zero_fits}
@@ -74,7 +74,7 @@ section_is o text c =
     subst (IsSectionOf o) one.2 (record { inside = omega (arith, range.1); code = own.1; size = refl })
 
 texts_are : (o : Coded) (lists : NameLists) (text : TextSection) → Contains (program_of o lists).texts text → IsSectionOf o.elf text
-unfolding program_of returning_graph graph_of
+unfolding program_of uncopied_program returning_graph graph_of
 texts_are o lists text c = section_is o.elf text c
 
 -- a row that fits, in such a section
@@ -155,7 +155,7 @@ module _ (o : Coded) (p : Program) (states : ℕ → Option State) where
       go false text h = omega (arith, h, sum_by-cons text_size (section_header o.elf.bytes i) (map (section_header o.elf.bytes) xs))
 
 pub rows_few : (o : Coded) (lists : NameLists) (states : ℕ → Option State) → IsObject o.elf.bytes o.elf → length (rows_of (program_of o lists) states) ≤ MAX_TEXT_BYTES + MAX_SECTIONS
-unfolding program_of returning_graph graph_of text_sections_of file_text_bytes
+unfolding program_of uncopied_program returning_graph graph_of text_sections_of file_text_bytes
 rows_few o lists states is =
     let n = length o.elf.sections in
     let known : n ≡ section_count o.elf.bytes = length-sections o.elf.bytes o.elf (sym is.says) in

@@ -14,7 +14,7 @@ use Rattle.table_law.proofs.Lists.{in_filter_map}
 use Rattle.table_law.proofs.RowAt as rows
 use Rattle.flow_defs.specs.Code.{alternatives_of, is_plain, number_of, plain_point, point_at, texts_of}
 use Rattle.flow_defs.specs.Arrival.{arrive}
-use Rattle.flow_defs.specs.Program.{graph_of, program_of, returning_graph}
+use Rattle.flow_defs.specs.Program.{graph_of, program_of, returning_graph, uncopied_program}
 use Rattle.flow_defs.specs.Sites.{enters_site, is_into_site, is_original_of, site_holding, sites_of}
 use Rattle.std.proofs.lemmas.Bool.{eqb-true}
 use Rattle.ot_base.specs.Places.{same_place}
@@ -58,17 +58,17 @@ arrives_plain o place boundary =
 
 module _ (o : Coded) (lists : NameLists) (order : ObjectIsInOrder o) where
   pub sites_apart : (one other : Site) (place : Place) → Contains (sites_of o) one → Contains (sites_of o) other → in_site one place ≡ true → in_site other place ≡ true → one ≡ other
-  unfolding program_of returning_graph graph_of
+  unfolding program_of uncopied_program returning_graph graph_of
   sites_apart one other place of-one of-other in-one in-other = (laid_out o lists order).sites_apart one other place of-one of-other in-one in-other
 
   -- a site of a place is the one that is found
   pub site_found : (site : Site) (place : Place) → Contains (sites_of o) site → in_site site place ≡ true → site_holding o place ≡ Some site
-  unfolding program_of returning_graph graph_of site_holding
+  unfolding program_of uncopied_program returning_graph graph_of site_holding
   site_found site place listed inside = rows.site_found (program_of o lists) (laid_out o lists order) place site listed inside
 
   -- a site begins at a boundary
   pub site_boundary : (site : Site) → Contains (sites_of o) site → is_boundary (texts_of o) site.start ≡ true
-  unfolding program_of returning_graph graph_of
+  unfolding program_of uncopied_program returning_graph graph_of
   site_boundary site listed =
       let start = (laid_out o lists order).site_starts site listed in
       let point : point_at o start.0 ≡ plain_point site.start = same_plain (point_at o start.0) site.start start.2 start.3 in
@@ -86,7 +86,7 @@ module _ (o : Coded) (lists : NameLists) (order : ObjectIsInOrder o) where
     pub arrives : Contains (arrive o site.start) start
 
   pub arrives_at_start : (site : Site) → Contains (sites_of o) site → ArrivesAtStart site
-  unfolding program_of returning_graph graph_of
+  unfolding program_of uncopied_program returning_graph graph_of
   arrives_at_start site listed =
       let own = arrives_plain o site.start (site_boundary site listed) in
       record {

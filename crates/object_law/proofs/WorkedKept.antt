@@ -12,7 +12,7 @@ use Rattle.flow_defs.specs.Edges.{goes, goes_on}
 use Rattle.flow_defs.specs.Hints.{save_of}
 use Rattle.flow_defs.specs.Marks.{calls_into_function, has_bad_target, has_target_in_site}
 use Rattle.flow_defs.specs.Owners.{is_entry, is_unchecked_owner, unchecked_start}
-use Rattle.flow_defs.specs.Program.{entries_of, graph_of, never_returns_by, previous_of, program_of, returning_graph, text_sections_of, unsized_of}
+use Rattle.flow_defs.specs.Program.{entries_of, graph_of, never_returns_by, previous_of, program_of, returning_graph, text_sections_of, uncopied_program, unsized_of}
 use Rattle.flow_defs.specs.Returning.{returns_at_last}
 use Rattle.flow_defs.specs.Roles.{returns_through, role_of, table_of_point}
 use Rattle.symbols_relocs.specs.Covers.{is_linked, is_uncovered}
@@ -76,7 +76,7 @@ module _ (lists : NameLists) (names : NamesNeither lists) where
   p = program_of worked lists
 
   firm : (q : ℕ) → IfSome (states q) (λ s. p.loose q ≡ false)
-  unfolding action_of address_loaded after around destination arithmetic arrive branch_way calls_into_function code_of decoded decoded_insn entries_of finished added_forms base_forms goes goes_on graph_of group_5 group_7 half has_bad_target has_target_in_site hint_of insn_of_object is_at_end is_dead_end is_entry is_unchecked_owner jump_table least_below loaded look look_form makes_room modrm_at modrm_fits nested never_returns_by opcode_at operands_at operands_by operation operation_by points_of_object pop_operand prefixes_at previous_of program_of push_operand reading rest_at returning_graph returns_at_last rex_at role_of save_of sib_at site_holding sites_of stored subtracted_by subtracted_from table_of_point text_sections_of texts_of map_at opcode_in two_byte_at two_byte_in unchecked_start unsized_of own_hint_of returns_through returning_at insn_by is_linked is_uncovered is_in_named_code
+  unfolding action_of address_loaded after around destination arithmetic arrive branch_way calls_into_function code_of decoded decoded_insn entries_of finished added_forms base_forms goes goes_on graph_of group_5 group_7 half has_bad_target has_target_in_site hint_of insn_of_object is_at_end is_dead_end is_entry is_unchecked_owner jump_table least_below loaded look look_form makes_room modrm_at modrm_fits nested never_returns_by opcode_at operands_at operands_by operation operation_by points_of_object pop_operand prefixes_at previous_of program_of uncopied_program push_operand reading rest_at returning_graph returns_at_last rex_at role_of save_of sib_at site_holding sites_of stored subtracted_by subtracted_from table_of_point text_sections_of texts_of map_at opcode_in two_byte_at two_byte_in unchecked_start unsized_of own_hint_of returns_through returning_at insn_by is_linked is_uncovered is_in_named_code
   firm = each (λ q. IfSome (states q) (λ s. p.loose q ≡ false)) (is (names.firm)) (is names.firm) (is names.firm) (is names.firm) (λ q. tt)
     where
       is : {c : Bool} → c ≡ false → ((c && true) || false) ≡ false
@@ -96,7 +96,7 @@ module _ (lists : NameLists) (names : NamesNeither lists) where
     inside : is_op_inside (p.insn q).op ≡ true
 
   fine : (q : ℕ) → IfSome (states q) (IsFine q)
-  unfolding action_of address_loaded after around destination arithmetic arrive branch_way calls_into_function code_of decoded decoded_insn entries_of finished added_forms base_forms goes goes_on graph_of group_5 group_7 half has_bad_target has_target_in_site hint_of insn_of_object is_at_end is_dead_end is_entry is_unchecked_owner jump_table least_below loaded look look_form makes_room modrm_at modrm_fits nested never_returns_by opcode_at operands_at operands_by operation operation_by points_of_object pop_operand prefixes_at previous_of program_of push_operand reading rest_at returning_graph returns_at_last rex_at role_of save_of sib_at site_holding sites_of stored subtracted_by subtracted_from table_of_point text_sections_of texts_of map_at opcode_in two_byte_at two_byte_in unchecked_start unsized_of own_hint_of returns_through returning_at insn_by is_linked is_uncovered is_in_named_code
+  unfolding action_of address_loaded after around destination arithmetic arrive branch_way calls_into_function code_of decoded decoded_insn entries_of finished added_forms base_forms goes goes_on graph_of group_5 group_7 half has_bad_target has_target_in_site hint_of insn_of_object is_at_end is_dead_end is_entry is_unchecked_owner jump_table least_below loaded look look_form makes_room modrm_at modrm_fits nested never_returns_by opcode_at operands_at operands_by operation operation_by points_of_object pop_operand prefixes_at previous_of program_of uncopied_program push_operand reading rest_at returning_graph returns_at_last rex_at role_of save_of sib_at site_holding sites_of stored subtracted_by subtracted_from table_of_point text_sections_of texts_of map_at opcode_in two_byte_at two_byte_in unchecked_start unsized_of own_hint_of returns_through returning_at insn_by is_linked is_uncovered is_in_named_code
   fine = each (λ q. IfSome (states q) (IsFine q))
       (record { bad = refl; past_end = refl; into_site = refl; into_function = refl; relocated = refl; moves = (pushed, refl); fits = refl; returns = λ e. cc; stays = refl; inside = refl })
       (record { bad = refl; past_end = refl; into_site = refl; into_function = refl; relocated = refl; moves = (pushed, refl); fits = refl; returns = λ e. cc; stays = refl; inside = refl })
@@ -105,11 +105,11 @@ module _ (lists : NameLists) (names : NamesNeither lists) where
       (λ q. tt)
 
   no_hint : (q : ℕ) → p.hint q ≡ None
-  unfolding action_of address_loaded after around destination arithmetic arrive branch_way calls_into_function code_of decoded decoded_insn entries_of finished added_forms base_forms goes goes_on graph_of group_5 group_7 half has_bad_target has_target_in_site hint_of insn_of_object is_at_end is_dead_end is_entry is_unchecked_owner jump_table least_below loaded look look_form makes_room modrm_at modrm_fits nested never_returns_by opcode_at operands_at operands_by operation operation_by points_of_object pop_operand prefixes_at previous_of program_of push_operand reading rest_at returning_graph returns_at_last rex_at role_of save_of sib_at site_holding sites_of stored subtracted_by subtracted_from table_of_point text_sections_of texts_of map_at opcode_in two_byte_at two_byte_in unchecked_start unsized_of own_hint_of returns_through returning_at insn_by is_linked is_uncovered is_in_named_code
+  unfolding action_of address_loaded after around destination arithmetic arrive branch_way calls_into_function code_of decoded decoded_insn entries_of finished added_forms base_forms goes goes_on graph_of group_5 group_7 half has_bad_target has_target_in_site hint_of insn_of_object is_at_end is_dead_end is_entry is_unchecked_owner jump_table least_below loaded look look_form makes_room modrm_at modrm_fits nested never_returns_by opcode_at operands_at operands_by operation operation_by points_of_object pop_operand prefixes_at previous_of program_of uncopied_program push_operand reading rest_at returning_graph returns_at_last rex_at role_of save_of sib_at site_holding sites_of stored subtracted_by subtracted_from table_of_point text_sections_of texts_of map_at opcode_in two_byte_at two_byte_in unchecked_start unsized_of own_hint_of returns_through returning_at insn_by is_linked is_uncovered is_in_named_code
   no_hint = each (λ q. p.hint q ≡ None) refl refl refl refl (λ q. refl)
 
   checked : (q : ℕ) → p.unchecked q ≡ false
-  unfolding action_of address_loaded after around destination arithmetic arrive branch_way calls_into_function code_of decoded decoded_insn entries_of finished added_forms base_forms goes goes_on graph_of group_5 group_7 half has_bad_target has_target_in_site hint_of insn_of_object is_at_end is_dead_end is_entry is_unchecked_owner jump_table least_below loaded look look_form makes_room modrm_at modrm_fits nested never_returns_by opcode_at operands_at operands_by operation operation_by points_of_object pop_operand prefixes_at previous_of program_of push_operand reading rest_at returning_graph returns_at_last rex_at role_of save_of sib_at site_holding sites_of stored subtracted_by subtracted_from table_of_point text_sections_of texts_of map_at opcode_in two_byte_at two_byte_in unchecked_start unsized_of own_hint_of returns_through returning_at insn_by is_linked is_uncovered is_in_named_code
+  unfolding action_of address_loaded after around destination arithmetic arrive branch_way calls_into_function code_of decoded decoded_insn entries_of finished added_forms base_forms goes goes_on graph_of group_5 group_7 half has_bad_target has_target_in_site hint_of insn_of_object is_at_end is_dead_end is_entry is_unchecked_owner jump_table least_below loaded look look_form makes_room modrm_at modrm_fits nested never_returns_by opcode_at operands_at operands_by operation operation_by points_of_object pop_operand prefixes_at previous_of program_of uncopied_program push_operand reading rest_at returning_graph returns_at_last rex_at role_of save_of sib_at site_holding sites_of stored subtracted_by subtracted_from table_of_point text_sections_of texts_of map_at opcode_in two_byte_at two_byte_in unchecked_start unsized_of own_hint_of returns_through returning_at insn_by is_linked is_uncovered is_in_named_code
   checked = each (λ q. p.unchecked q ≡ false) refl refl refl refl (λ q. refl)
 
   -- an edge goes on to the next point, with the state there
@@ -120,7 +120,7 @@ module _ (lists : NameLists) (names : NamesNeither lists) where
     known : states e.to ≡ None → ⊥
 
   right : (a : ℕ) → All (IsRight a) (p.goes a)
-  unfolding action_of address_loaded after around destination arithmetic arrive branch_way calls_into_function code_of decoded decoded_insn entries_of finished added_forms base_forms goes goes_on graph_of group_5 group_7 half has_bad_target has_target_in_site hint_of insn_of_object is_at_end is_dead_end is_entry is_unchecked_owner jump_table least_below loaded look look_form makes_room modrm_at modrm_fits nested never_returns_by opcode_at operands_at operands_by operation operation_by points_of_object pop_operand prefixes_at previous_of program_of push_operand reading rest_at returning_graph returns_at_last rex_at role_of save_of sib_at site_holding sites_of stored subtracted_by subtracted_from table_of_point text_sections_of texts_of map_at opcode_in two_byte_at two_byte_in unchecked_start unsized_of own_hint_of returns_through returning_at insn_by is_linked is_uncovered is_in_named_code
+  unfolding action_of address_loaded after around destination arithmetic arrive branch_way calls_into_function code_of decoded decoded_insn entries_of finished added_forms base_forms goes goes_on graph_of group_5 group_7 half has_bad_target has_target_in_site hint_of insn_of_object is_at_end is_dead_end is_entry is_unchecked_owner jump_table least_below loaded look look_form makes_room modrm_at modrm_fits nested never_returns_by opcode_at operands_at operands_by operation operation_by points_of_object pop_operand prefixes_at previous_of program_of uncopied_program push_operand reading rest_at returning_graph returns_at_last rex_at role_of save_of sib_at site_holding sites_of stored subtracted_by subtracted_from table_of_point text_sections_of texts_of map_at opcode_in two_byte_at two_byte_in unchecked_start unsized_of own_hint_of returns_through returning_at insn_by is_linked is_uncovered is_in_named_code
   right = each (λ a. All (IsRight a) (p.goes a))
       (one (IsRight 0) (edge 1 Next) (record { next = refl; owner = refl; carries = refl; known = λ e. cc }))
       (one (IsRight 1) (edge 2 Next) (record { next = refl; owner = refl; carries = refl; known = λ e. cc }))
@@ -155,7 +155,7 @@ module _ (lists : NameLists) (names : NamesNeither lists) where
 
   -- at level 0
   at_start : (q : ℕ) → is_at_entry p q ≡ true → q ≡ 0
-  unfolding action_of address_loaded after around destination arithmetic arrive branch_way calls_into_function code_of decoded decoded_insn entries_of finished added_forms base_forms goes goes_on graph_of group_5 group_7 half has_bad_target has_target_in_site hint_of insn_of_object is_at_end is_dead_end is_entry is_unchecked_owner jump_table least_below loaded look look_form makes_room modrm_at modrm_fits nested never_returns_by opcode_at operands_at operands_by operation operation_by points_of_object pop_operand prefixes_at previous_of program_of push_operand reading rest_at returning_graph returns_at_last rex_at role_of save_of sib_at site_holding sites_of stored subtracted_by subtracted_from table_of_point text_sections_of texts_of map_at opcode_in two_byte_at two_byte_in unchecked_start unsized_of own_hint_of returns_through returning_at insn_by is_linked is_uncovered is_in_named_code
+  unfolding action_of address_loaded after around destination arithmetic arrive branch_way calls_into_function code_of decoded decoded_insn entries_of finished added_forms base_forms goes goes_on graph_of group_5 group_7 half has_bad_target has_target_in_site hint_of insn_of_object is_at_end is_dead_end is_entry is_unchecked_owner jump_table least_below loaded look look_form makes_room modrm_at modrm_fits nested never_returns_by opcode_at operands_at operands_by operation operation_by points_of_object pop_operand prefixes_at previous_of program_of uncopied_program push_operand reading rest_at returning_graph returns_at_last rex_at role_of save_of sib_at site_holding sites_of stored subtracted_by subtracted_from table_of_point text_sections_of texts_of map_at opcode_in two_byte_at two_byte_in unchecked_start unsized_of own_hint_of returns_through returning_at insn_by is_linked is_uncovered is_in_named_code
   at_start q e = go (0 == q) refl e
     where
       go : (b : Bool) → (0 == q) ≡ b → ((b || false) || false) ≡ true → q ≡ 0
@@ -212,11 +212,11 @@ module _ (lists : NameLists) (names : NamesNeither lists) where
   wrong b e f = let k : false ≡ true = sym e ∙ f in cc
 
   no_site : (site : Site) → Contains p.sites site → ⊥
-  unfolding action_of address_loaded after around destination arithmetic arrive branch_way calls_into_function code_of decoded decoded_insn entries_of finished added_forms base_forms goes goes_on graph_of group_5 group_7 half has_bad_target has_target_in_site hint_of insn_of_object is_at_end is_dead_end is_entry is_unchecked_owner jump_table least_below loaded look look_form makes_room modrm_at modrm_fits nested never_returns_by opcode_at operands_at operands_by operation operation_by points_of_object pop_operand prefixes_at previous_of program_of push_operand reading rest_at returning_graph returns_at_last rex_at role_of save_of sib_at site_holding sites_of stored subtracted_by subtracted_from table_of_point text_sections_of texts_of map_at opcode_in two_byte_at two_byte_in unchecked_start unsized_of own_hint_of returns_through returning_at insn_by is_linked is_uncovered is_in_named_code
+  unfolding action_of address_loaded after around destination arithmetic arrive branch_way calls_into_function code_of decoded decoded_insn entries_of finished added_forms base_forms goes goes_on graph_of group_5 group_7 half has_bad_target has_target_in_site hint_of insn_of_object is_at_end is_dead_end is_entry is_unchecked_owner jump_table least_below loaded look look_form makes_room modrm_at modrm_fits nested never_returns_by opcode_at operands_at operands_by operation operation_by points_of_object pop_operand prefixes_at previous_of program_of uncopied_program push_operand reading rest_at returning_graph returns_at_last rex_at role_of save_of sib_at site_holding sites_of stored subtracted_by subtracted_from table_of_point text_sections_of texts_of map_at opcode_in two_byte_at two_byte_in unchecked_start unsized_of own_hint_of returns_through returning_at insn_by is_linked is_uncovered is_in_named_code
   no_site site c = nowhere site c
 
   no_unsized : (place : Place) → Contains p.unsized place → ⊥
-  unfolding action_of address_loaded after around destination arithmetic arrive branch_way calls_into_function code_of decoded decoded_insn entries_of finished added_forms base_forms goes goes_on graph_of group_5 group_7 half has_bad_target has_target_in_site hint_of insn_of_object is_at_end is_dead_end is_entry is_unchecked_owner jump_table least_below loaded look look_form makes_room modrm_at modrm_fits nested never_returns_by opcode_at operands_at operands_by operation operation_by points_of_object pop_operand prefixes_at previous_of program_of push_operand reading rest_at returning_graph returns_at_last rex_at role_of save_of sib_at site_holding sites_of stored subtracted_by subtracted_from table_of_point text_sections_of texts_of map_at opcode_in two_byte_at two_byte_in unchecked_start unsized_of own_hint_of returns_through returning_at insn_by is_linked is_uncovered is_in_named_code
+  unfolding action_of address_loaded after around destination arithmetic arrive branch_way calls_into_function code_of decoded decoded_insn entries_of finished added_forms base_forms goes goes_on graph_of group_5 group_7 half has_bad_target has_target_in_site hint_of insn_of_object is_at_end is_dead_end is_entry is_unchecked_owner jump_table least_below loaded look look_form makes_room modrm_at modrm_fits nested never_returns_by opcode_at operands_at operands_by operation operation_by points_of_object pop_operand prefixes_at previous_of program_of uncopied_program push_operand reading rest_at returning_graph returns_at_last rex_at role_of save_of sib_at site_holding sites_of stored subtracted_by subtracted_from table_of_point text_sections_of texts_of map_at opcode_in two_byte_at two_byte_in unchecked_start unsized_of own_hint_of returns_through returning_at insn_by is_linked is_uncovered is_in_named_code
   no_unsized place c = nowhere place c
 
   not_hinted : (q : ℕ) (hint : HintState) → p.hint q ≡ Some hint → ⊥
@@ -258,19 +258,19 @@ module _ (lists : NameLists) (names : NamesNeither lists) where
       subst (λ (u : State). Kept p q u) (sym same) k.1
 
   at_call : Kept p 1 pushed
-  unfolding action_of address_loaded after around destination arithmetic arrive branch_way calls_into_function code_of decoded decoded_insn entries_of finished added_forms base_forms goes goes_on graph_of group_5 group_7 half has_bad_target has_target_in_site hint_of insn_of_object is_at_end is_dead_end is_entry is_unchecked_owner jump_table least_below loaded look look_form makes_room modrm_at modrm_fits nested never_returns_by opcode_at operands_at operands_by operation operation_by points_of_object pop_operand prefixes_at previous_of program_of push_operand reading rest_at returning_graph returns_at_last rex_at role_of save_of sib_at site_holding sites_of stored subtracted_by subtracted_from table_of_point text_sections_of texts_of map_at opcode_in two_byte_at two_byte_in unchecked_start unsized_of own_hint_of returns_through returning_at insn_by is_linked is_uncovered is_in_named_code
+  unfolding action_of address_loaded after around destination arithmetic arrive branch_way calls_into_function code_of decoded decoded_insn entries_of finished added_forms base_forms goes goes_on graph_of group_5 group_7 half has_bad_target has_target_in_site hint_of insn_of_object is_at_end is_dead_end is_entry is_unchecked_owner jump_table least_below loaded look look_form makes_room modrm_at modrm_fits nested never_returns_by opcode_at operands_at operands_by operation operation_by points_of_object pop_operand prefixes_at previous_of program_of uncopied_program push_operand reading rest_at returning_graph returns_at_last rex_at role_of save_of sib_at site_holding sites_of stored subtracted_by subtracted_from table_of_point text_sections_of texts_of map_at opcode_in two_byte_at two_byte_in unchecked_start unsized_of own_hint_of returns_through returning_at insn_by is_linked is_uncovered is_in_named_code
   at_call = goes_to 0 1 initial pushed (lit< tt) (0, refl) refl (0, lit< tt, refl) refl refl
 
   at_pop : Kept p 2 pushed
-  unfolding action_of address_loaded after around destination arithmetic arrive branch_way calls_into_function code_of decoded decoded_insn entries_of finished added_forms base_forms goes goes_on graph_of group_5 group_7 half has_bad_target has_target_in_site hint_of insn_of_object is_at_end is_dead_end is_entry is_unchecked_owner jump_table least_below loaded look look_form makes_room modrm_at modrm_fits nested never_returns_by opcode_at operands_at operands_by operation operation_by points_of_object pop_operand prefixes_at previous_of program_of push_operand reading rest_at returning_graph returns_at_last rex_at role_of save_of sib_at site_holding sites_of stored subtracted_by subtracted_from table_of_point text_sections_of texts_of map_at opcode_in two_byte_at two_byte_in unchecked_start unsized_of own_hint_of returns_through returning_at insn_by is_linked is_uncovered is_in_named_code
+  unfolding action_of address_loaded after around destination arithmetic arrive branch_way calls_into_function code_of decoded decoded_insn entries_of finished added_forms base_forms goes goes_on graph_of group_5 group_7 half has_bad_target has_target_in_site hint_of insn_of_object is_at_end is_dead_end is_entry is_unchecked_owner jump_table least_below loaded look look_form makes_room modrm_at modrm_fits nested never_returns_by opcode_at operands_at operands_by operation operation_by points_of_object pop_operand prefixes_at previous_of program_of uncopied_program push_operand reading rest_at returning_graph returns_at_last rex_at role_of save_of sib_at site_holding sites_of stored subtracted_by subtracted_from table_of_point text_sections_of texts_of map_at opcode_in two_byte_at two_byte_in unchecked_start unsized_of own_hint_of returns_through returning_at insn_by is_linked is_uncovered is_in_named_code
   at_pop = goes_to 1 2 pushed pushed (lit< tt) at_call refl (0, lit< tt, refl) (ap (λ (b : Bool). not b && true) names.returns) refl
 
   at_return : Kept p 3 initial
-  unfolding action_of address_loaded after around destination arithmetic arrive branch_way calls_into_function code_of decoded decoded_insn entries_of finished added_forms base_forms goes goes_on graph_of group_5 group_7 half has_bad_target has_target_in_site hint_of insn_of_object is_at_end is_dead_end is_entry is_unchecked_owner jump_table least_below loaded look look_form makes_room modrm_at modrm_fits nested never_returns_by opcode_at operands_at operands_by operation operation_by points_of_object pop_operand prefixes_at previous_of program_of push_operand reading rest_at returning_graph returns_at_last rex_at role_of save_of sib_at site_holding sites_of stored subtracted_by subtracted_from table_of_point text_sections_of texts_of map_at opcode_in two_byte_at two_byte_in unchecked_start unsized_of own_hint_of returns_through returning_at insn_by is_linked is_uncovered is_in_named_code
+  unfolding action_of address_loaded after around destination arithmetic arrive branch_way calls_into_function code_of decoded decoded_insn entries_of finished added_forms base_forms goes goes_on graph_of group_5 group_7 half has_bad_target has_target_in_site hint_of insn_of_object is_at_end is_dead_end is_entry is_unchecked_owner jump_table least_below loaded look look_form makes_room modrm_at modrm_fits nested never_returns_by opcode_at operands_at operands_by operation operation_by points_of_object pop_operand prefixes_at previous_of program_of uncopied_program push_operand reading rest_at returning_graph returns_at_last rex_at role_of save_of sib_at site_holding sites_of stored subtracted_by subtracted_from table_of_point text_sections_of texts_of map_at opcode_in two_byte_at two_byte_in unchecked_start unsized_of own_hint_of returns_through returning_at insn_by is_linked is_uncovered is_in_named_code
   at_return = goes_to 2 3 pushed initial (lit< tt) at_pop refl (0, lit< tt, refl) refl refl
 
   at_push : Kept p 0 initial
-  unfolding action_of address_loaded after around destination arithmetic arrive branch_way calls_into_function code_of decoded decoded_insn entries_of finished added_forms base_forms goes goes_on graph_of group_5 group_7 half has_bad_target has_target_in_site hint_of insn_of_object is_at_end is_dead_end is_entry is_unchecked_owner jump_table least_below loaded look look_form makes_room modrm_at modrm_fits nested never_returns_by opcode_at operands_at operands_by operation operation_by points_of_object pop_operand prefixes_at previous_of program_of push_operand reading rest_at returning_graph returns_at_last rex_at role_of save_of sib_at site_holding sites_of stored subtracted_by subtracted_from table_of_point text_sections_of texts_of map_at opcode_in two_byte_at two_byte_in unchecked_start unsized_of own_hint_of returns_through returning_at insn_by is_linked is_uncovered is_in_named_code
+  unfolding action_of address_loaded after around destination arithmetic arrive branch_way calls_into_function code_of decoded decoded_insn entries_of finished added_forms base_forms goes goes_on graph_of group_5 group_7 half has_bad_target has_target_in_site hint_of insn_of_object is_at_end is_dead_end is_entry is_unchecked_owner jump_table least_below loaded look look_form makes_room modrm_at modrm_fits nested never_returns_by opcode_at operands_at operands_by operation operation_by points_of_object pop_operand prefixes_at previous_of program_of uncopied_program push_operand reading rest_at returning_graph returns_at_last rex_at role_of save_of sib_at site_holding sites_of stored subtracted_by subtracted_from table_of_point text_sections_of texts_of map_at opcode_in two_byte_at two_byte_in unchecked_start unsized_of own_hint_of returns_through returning_at insn_by is_linked is_uncovered is_in_named_code
   at_push = (0, refl)
 
   alike : (q : ℕ) (s t : State) → Kept p q s → Some s ≡ Some t → Kept p q t

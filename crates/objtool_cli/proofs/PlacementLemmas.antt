@@ -7,7 +7,7 @@ use Rattle.ot_base.specs.Section.{TextSection}
 use Rattle.elf_objects.specs.Contents.{is_text, no_section, section_at}
 use Rattle.elf_objects.specs.Elf.{Elf, SectionEntry}
 use Rattle.flow_defs.specs.Coded.{Coded}
-use Rattle.flow_defs.specs.Program.{graph_of, program_of, returning_graph, text_sections_of}
+use Rattle.flow_defs.specs.Program.{graph_of, program_of, returning_graph, text_sections_of, uncopied_program}
 use Rattle.command_base.specs.TextSections.{texts_of}
 
 abbrev pub listed_text : ℕ × SectionEntry → TextSection
@@ -42,7 +42,7 @@ same_texts section from (s ∷ all) each =
     ∙ sym (entry_first from s (enumerate_from (from + 1) all) (is_text s) refl)
 
 texts_are : (o : Coded) (lists : NameLists) → (program_of o lists).texts ≡ text_sections_of o.elf
-unfolding program_of returning_graph graph_of
+unfolding program_of uncopied_program returning_graph graph_of
 texts_are o lists = refl
 
 listed_texts : (o : Elf) → text_sections_of o ≡ texts_of o

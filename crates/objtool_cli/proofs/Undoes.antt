@@ -16,7 +16,7 @@ use Rattle.elf_objects.specs.Contents.{is_text, no_section, section_at}
 use Rattle.elf_objects.specs.Elf.{Elf}
 use Rattle.flow_defs.specs.Code.{text_numbers}
 use Rattle.flow_defs.specs.Coded.{Coded}
-use Rattle.flow_defs.specs.Program.{graph_of, program_of, returning_graph, text_sections_of}
+use Rattle.flow_defs.specs.Program.{graph_of, program_of, returning_graph, text_sections_of, uncopied_program}
 use Rattle.state_defs.specs.Row.{row_of, zero_row}
 use Rattle.state_defs.specs.declared.state.BpHome.TheVariants.{Same, Saved}
 use Rattle.state_defs.specs.declared.state.EndKind.TheVariants.{Undefined, EndOfStack}
@@ -226,11 +226,11 @@ section_is o text c =
     subst (IsSectionOf o) one.2 (record { inside = omega (arith, range.1); code = own.1; size = refl })
 
 texts_are : (o : Coded) (lists : NameLists) (text : TextSection) → Contains (program_of o lists).texts text → IsSectionOf o.elf text
-unfolding program_of returning_graph graph_of
+unfolding program_of uncopied_program returning_graph graph_of
 texts_are o lists text c = section_is o.elf text c
 
 texts_rise : (o : Coded) (lists : NameLists) → Rising (λ (t u : TextSection). t.sec < u.sec) (program_of o lists).texts
-unfolding program_of returning_graph graph_of
+unfolding program_of uncopied_program returning_graph graph_of
 texts_rise o lists = sections_rise o.elf
 
 follows_in : (o : Coded) (lists : NameLists) (rows : List PlacedRow) (file : List ℕ) → FollowsRows o.elf rows file

@@ -21,7 +21,7 @@ use Rattle.machine_defs.specs.Kept as kept
 use Rattle.flow_defs.specs.Arrival.{arrive}
 use Rattle.flow_defs.specs.Code.{alternatives_of, no_point, number_of, plain_point, point_at, points_of_object, texts_of}
 use Rattle.flow_defs.specs.Owners.{is_entry}
-use Rattle.flow_defs.specs.Program.{entries_of, graph_of, is_entry_point, program_of, returning_graph}
+use Rattle.flow_defs.specs.Program.{entries_of, graph_of, is_entry_point, program_of, returning_graph, uncopied_program}
 use Rattle.object_law.proofs.Edges.{arrive_points}
 use Rattle.object_law.proofs.Levels.{and_true}
 use Rattle.object_law.proofs.Numbers.{numbered}
@@ -149,13 +149,13 @@ is_entered o place n entry here entered number =
 
 -- what is asked of a program
 one_enters : (o : Coded) (names : NameLists) (n entry : ℕ) → IsEnteredAt o entry n → kept.is_at_entry (program_of o names) n ≡ true
-unfolding program_of returning_graph graph_of
+unfolding program_of uncopied_program returning_graph graph_of
 one_enters o names n entry at =
     lists.found (λ e. list_any (λ x. x == n) (arrive o (point_at o e).place)) (entries_of o) entry at.listed
     (lists.found (λ x. x == n) (arrive o (point_at o entry).place) n at.stands (eq-eqb n n refl))
 
 enters_one : (o : Coded) (names : NameLists) (n : ℕ) → kept.is_at_entry (program_of o names) n ≡ true → (entry : ℕ) × IsEnteredAt o entry n
-unfolding program_of returning_graph graph_of
+unfolding program_of uncopied_program returning_graph graph_of
 enters_one o names n enters =
     let entry = lists.find_one (λ e. list_any (λ x. x == n) (arrive o (point_at o e).place)) (entries_of o) enters in
     let one = lists.find_one (λ x. x == n) (arrive o (point_at o entry.0).place) entry.2 in

@@ -1,6 +1,6 @@
 use Rattle.std.proofs.Common.{◌≡◌, ℕ, List, Option, ap, subst}
 use Rattle.flow_defs.specs.Coded.{Coded}
-use Rattle.flow_defs.specs.Program.{program_of}
+use Rattle.flow_defs.specs.Program.{uncopied_program}
 use Rattle.control_flow.specs.Listed.{AreEntered, count_of}
 use Rattle.control_flow.proofs.Steps.{all_ok}
 use Rattle.control_flow.proofs.returning.returns_of.Goals as goal
@@ -9,7 +9,7 @@ pub returns-clause-told : goal.returns-clause-told
 returns-clause-told c =
     let o : Coded = c.args.points.now in
     let lists = c.args.lists.now in
-    let told = c.find_returns.ensures.told (program_of o lists) c.in_ok-flow_of.ensures.told c.program_is_right.ensures in
+    let told = c.find_returns.ensures.told (uncopied_program o lists) c.in_ok-flow_of.ensures.told c.program_is_right.ensures in
     all_ok c.find_returns.result (λ returns is. record {
       flow = c.in_ok-flow_of.field-0;
       flow_starts = ap (λ starts. starts.items) c.in_ok-flow_of.ensures.listed.0;

@@ -7,7 +7,7 @@ use Rattle.flow_defs.specs.Edges.{goes, goes_on}
 use Rattle.flow_defs.specs.Hints.{save_of}
 use Rattle.flow_defs.specs.Marks.{calls_into_function, has_bad_target, has_target_in_site}
 use Rattle.flow_defs.specs.Owners.{is_entry, is_unchecked_owner, unchecked_start}
-use Rattle.flow_defs.specs.Program.{entries_of, graph_of, never_returns_by, previous_of, program_of, returning_graph, text_sections_of, unsized_of}
+use Rattle.flow_defs.specs.Program.{entries_of, graph_of, never_returns_by, previous_of, program_of, returning_graph, text_sections_of, uncopied_program, unsized_of}
 use Rattle.flow_defs.specs.Returning.{returns_at_last}
 use Rattle.flow_defs.specs.Roles.{returns_through, role_of, table_of_point}
 use Rattle.symbols_relocs.specs.Covers.{is_linked, is_uncovered}
@@ -40,7 +40,7 @@ use Rattle.object_law.proofs.WorkedFile.{is_object}
 use Rattle.object_law.proofs.worked_object.worked_object.Goals as goal
 
 unwinds : ObjectUnwinds → (lists : NameLists) → NamesNeither lists → UnwindsWorked lists
-unfolding action_of address_loaded after around destination arithmetic arrive branch_way calls_into_function code_of decoded decoded_insn entries_of finished added_forms base_forms goes goes_on graph_of group_5 group_7 half has_bad_target has_target_in_site hint_of insn_of_object is_at_end is_dead_end is_entry is_unchecked_owner jump_table least_below loaded look look_form makes_room modrm_at modrm_fits nested never_returns_by opcode_at operands_at operands_by operation operation_by points_of_object pop_operand prefixes_at previous_of program_of push_operand reading rest_at returning_graph returns_at_last rex_at role_of save_of sib_at site_holding sites_of stored subtracted_by subtracted_from table_of_point text_sections_of texts_of map_at opcode_in two_byte_at two_byte_in unchecked_start unsized_of own_hint_of returns_through returning_at insn_by is_linked is_uncovered is_in_named_code flow_faults
+unfolding action_of address_loaded after around destination arithmetic arrive branch_way calls_into_function code_of decoded decoded_insn entries_of finished added_forms base_forms goes goes_on graph_of group_5 group_7 half has_bad_target has_target_in_site hint_of insn_of_object is_at_end is_dead_end is_entry is_unchecked_owner jump_table least_below loaded look look_form makes_room modrm_at modrm_fits nested never_returns_by opcode_at operands_at operands_by operation operation_by points_of_object pop_operand prefixes_at previous_of program_of uncopied_program push_operand reading rest_at returning_graph returns_at_last rex_at role_of save_of sib_at site_holding sites_of stored subtracted_by subtracted_from table_of_point text_sections_of texts_of map_at opcode_in two_byte_at two_byte_in unchecked_start unsized_of own_hint_of returns_through returning_at insn_by is_linked is_uncovered is_in_named_code flow_faults
 unwinds law lists names = record {
   order = order;
   flow = refl;
