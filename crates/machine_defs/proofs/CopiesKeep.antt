@@ -6,7 +6,7 @@ use Rattle.std.proofs.lemmas.Bool.{and_from, and_parts, or_left, or_right, and_r
 use Rattle.operation_defs.specs.declared.op.DrapRegister.{DrapRegister}
 use Rattle.operation_defs.specs.declared.op.Op.{Op}
 use Rattle.operation_defs.specs.declared.op.Op.TheVariants.{AndSp, AndDrap, BackSp, CellSp, Int3, Keep, LeaBpRoom, LeaBpSp, LeaReg, Plain, RetImm, SpReg, StoreSp, StoreThrough}
-use Rattle.operation_defs.specs.Made.{Copying, Stored, follows, has_register, made_align, made_by_copies, made_plain, may_write, sets_bp}
+use Rattle.operation_defs.specs.Made.{Copying, Stored, follows, has_register, is_told, made_align, made_by_copies, made_plain, may_write, sets_bp, tells_write}
 use Rattle.state_defs.specs.Effect.{HasSignedNumber}
 use Rattle.state_defs.specs.declared.state.HintState.TheVariants.{Restore}
 use Rattle.machine_defs.specs.declared.flow.Edge.{Edge}
@@ -121,6 +121,19 @@ five_stays _ _ (Makes.back reg) r unset = refl
 five_stays _ _ (Makes.aligns reg mask) r unset = refl
 five_stays _ _ (Makes.cell reg) r unset = refl
 
+-- and so is what tells of r10 and r13
+told_stays : (a b : Op) → Makes a b → (r : ℕ) → sets_from_rsp a r ≡ false → tells_write r b ≡ tells_write r a
+told_stays _ _ (Makes.stays op) r unset = refl
+told_stays _ _ (Makes.room by) r unset = refl
+told_stays _ _ (Makes.keeps_bp by) r unset = elim (cases_Bool (5 == r)) [
+  | inl same ↦ absurd (false≢true (sym unset ∙ eq-eqb r 5 (sym (eqb-true 5 r same))))
+  | inr other ↦ other
+]
+told_stays _ _ (Makes.keeps reg by) r unset = refl
+told_stays _ _ (Makes.back reg) r unset = refl
+told_stays _ _ (Makes.aligns reg mask) r unset = refl
+told_stays _ _ (Makes.cell reg) r unset = refl
+
 module _ (p : Program) (is : IsProgram p) (uncopied : IsUncopied p) where
   makes : (q : ℕ) → Makes (p.insn q).op (insn_with_copies p q).op
   unfolding insn_with_copies
@@ -138,8 +151,9 @@ module _ (p : Program) (is : IsProgram p) (uncopied : IsUncopied p) where
   same_loss : (q r : ℕ) → sets_from_rsp (p.insn q).op r ≡ false → loses (insn_with_copies p q) r ≡ loses (p.insn q) r
   same_loss q r unset =
       ap (λ (b : Bool). if b then not (is_given_back r) else may_write (insn_with_copies p q) r) (call_stays (p.insn q).op (insn_with_copies p q).op (makes q))
-      ∙ ap (λ (w : ℕ). if is_call_op (p.insn q).op then not (is_given_back r) else (has_register w r || (sets_bp (insn_with_copies p q).op && (r == 5)))) (same_writes q)
-      ∙ ap (λ (b : Bool). if is_call_op (p.insn q).op then not (is_given_back r) else (has_register (p.insn q).writes r || b)) (five_stays (p.insn q).op (insn_with_copies p q).op (makes q) r unset)
+      ∙ ap (λ (w : ℕ). if is_call_op (p.insn q).op then not (is_given_back r) else ((has_register w r && (not (is_told r) || tells_write r (insn_with_copies p q).op)) || (sets_bp (insn_with_copies p q).op && (r == 5)))) (same_writes q)
+      ∙ ap (λ (b : Bool). if is_call_op (p.insn q).op then not (is_given_back r) else ((has_register (p.insn q).writes r && (not (is_told r) || b)) || (sets_bp (insn_with_copies p q).op && (r == 5)))) (told_stays (p.insn q).op (insn_with_copies p q).op (makes q) r unset)
+      ∙ ap (λ (b : Bool). if is_call_op (p.insn q).op then not (is_given_back r) else ((has_register (p.insn q).writes r && (not (is_told r) || tells_write r (p.insn q).op)) || b)) (five_stays (p.insn q).op (insn_with_copies p q).op (makes q) r unset)
 
   goes_on_along : (q : ℕ) (e : Edge) → Contains (edges_of p q) e → is_local e.kind ≡ true → goes_on_to p q e.to ≡ true
   goes_on_along q e listed local = any_at (λ x. (x.to == e.to) && is_local x.kind) (edges_of p q) e listed (and_from (e.to == e.to) (is_local e.kind) (eq-eqb e.to e.to refl) local)

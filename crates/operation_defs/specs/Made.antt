@@ -1,10 +1,10 @@
 -- What decoding gives, and what a program makes of it.
-use Rattle.std.specs.Prelude.{ℕ, ◌^◌, ◌/◌, ◌%◌, ◌==◌, Bool, true, false, ◌&&◌, ◌||◌, Option, Some, None, if◌then◌else◌, ℤ}
+use Rattle.std.specs.Prelude.{ℕ, ◌^◌, ◌/◌, ◌%◌, ◌==◌, Bool, true, false, not, ◌&&◌, ◌||◌, Option, Some, None, if◌then◌else◌, ℤ}
 use Rattle.operation_defs.specs.declared.insn.Insn.{Insn}
 use Rattle.operation_defs.specs.declared.op.DrapRegister.{DrapRegister}
 use Rattle.operation_defs.specs.declared.op.DrapRegister.TheVariants.{R10, R13}
 use Rattle.operation_defs.specs.declared.op.Op.{Op}
-use Rattle.operation_defs.specs.declared.op.Op.TheVariants.{Plain, PopBp, AndSp, AndDrap, LeaBpSp, LeaBpRoom, LeaReg, Keep, SpReg, BackSp, StoreSp, CellSp, CopyBp, StoreThrough, LoadBp, Leave, SpOther, BpOther, Call, Hop, Jmp, Iret, IretNext, Switch}
+use Rattle.operation_defs.specs.declared.op.Op.TheVariants.{Plain, RegOther, PopReg, LoadReg, PopBp, AndSp, AndDrap, LeaBpSp, LeaBpRoom, LeaReg, Keep, SpReg, BackSp, StoreSp, CellSp, CopyBp, StoreThrough, LoadBp, Leave, SpOther, BpOther, Call, Hop, Jmp, Iret, IretNext, Switch}
 
 -- the number of a register among the general ones
 abbrev pub register_of : DrapRegister → ℕ
@@ -26,9 +26,24 @@ sets_bp BpOther = true
 sets_bp (Keep reg by) = reg == 5
 sets_bp _ = false
 
--- whether an instruction may write a general register; 5 is rbp
+-- Whether an operation writes r10 (10) or r13 (13), or may do so: operations tell that, as they tell of rsp and rbp.
+abbrev pub tells_write : ℕ → Op → Bool
+tells_write r (RegOther r10 r13) = if r == 10 then r10 else r13
+tells_write r (LeaReg reg by) = reg == r
+tells_write r (Keep reg by) = reg == r
+tells_write r (PopReg reg) = register_of reg == r
+tells_write r (LoadReg reg at) = register_of reg == r
+tells_write r SpOther = true
+tells_write r BpOther = true
+tells_write r Switch = true
+tells_write r _ = false
+
+abbrev pub is_told : ℕ → Bool
+is_told r = r == 10 || r == 13
+
+-- Whether an instruction may write a general register; 5 is rbp. Of r10 and r13 its operation tells whether it does.
 abbrev pub may_write : Insn → ℕ → Bool
-may_write insn r = has_register insn.writes r || (sets_bp insn.op && (r == 5))
+may_write insn r = (has_register insn.writes r && (not (is_told r) || tells_write r insn.op)) || (sets_bp insn.op && (r == 5))
 
 -- whether an operation sets a register from rsp, which states follow: a register that is kept, or rbp as the base over room
 abbrev pub follows : Op → ℕ → Bool
