@@ -77,7 +77,7 @@ def model_line(code: bytes, whole: bool) -> str:
     found = decode(code, 0, whole)
     if isinstance(found, Fault):
         return {"cut": f"= cut {found.count}", "outside": f"= outside {found.count}", "long": "= long"}[found.why]
-    return f"= {found.length} {op_text(found)}"
+    return f"= {found.length} {op_text(found)} writes {found.writes}"
 
 
 def main(program: str, seed: str, *words: str) -> int:

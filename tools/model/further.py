@@ -5,6 +5,7 @@ listings and backtraces."""
 import random
 from typing import NamedTuple, Optional
 
+import elf
 from backtrace import backtrace_faults
 from check import options_of
 from commands import WARNINGS, Answer
@@ -19,6 +20,7 @@ from walk import unwind
 
 # Each command that writes an object, with the one that reads what it adds.
 WRITERS = {"sites": (sites, "list", listed), "cfi": (cfi, "cfa", cfa)}
+FAULTY_IMAGE_LINES = ["regs 1 2", "reg 1 2 3", "mem 7000 00", "mem 7 0", "place 1 2", "place 4 0", "# no", "", "mem ffffffffffffffff 0000"]
 FAULTY_LINES = ["files x", "file", "file a.o b.o", "place 1", "place 1 0x10", "place x 0", "place 4294967296 0", "file nowhere", "place 0 0", "place 2 0", ""]
 
 
@@ -89,25 +91,29 @@ def layout_by_lot(names: list[str], sizes: list[int], rng: random.Random) -> str
     return "\n".join(lines) + rng.choice(["", "\n"])
 
 
-def image_by_lot(size: int, rng: random.Random) -> str:
-    """A thread that stopped in section number 1, which has this size, with words of its stacks: mostly addresses of these and of code."""
-    code, stacks = 0x1000, 0x7000
-    place = lambda: code + rng.randrange(size + 2)
+def image_by_lot(data: bytes, rng: random.Random) -> str:
+    """A thread that stopped in an object's code, with words of its stacks: mostly addresses of these and of code."""
+    object, stacks = elf.parse(data), 0x7000
+    bases, end = {}, 0x1000
+    for sec in object.texts:
+        bases[sec] = end
+        end += object.sections[sec].size
+    place = lambda: rng.randrange(0x1000, end + 2)
     word = lambda: rng.choice((place(), stacks + 8 * rng.randrange(80), stacks + rng.randrange(640), 0xA0000000, 5))
-    lines = [f"regs {place():x} {stacks + 8 * rng.randrange(20):x} {word():x}", f"place 1 {code:x}"]
+    lines = [f"regs {place():x} {stacks + 8 * rng.randrange(20):x} {word():x}"] + [f"place {sec} {base:x}" for sec, base in bases.items()]
     holes = {rng.randrange(80) for _ in range(rng.choice((0, 0, 1, 3)))}
     lines += [f"mem {stacks + 8 * i:x} {word().to_bytes(8, 'little').hex()}" for i in range(80) if i not in holes]
     if rng.random() < 0.1:
-        lines.insert(rng.randrange(len(lines) + 1), rng.choice(("regs 1 2", "reg 1 2 3", "mem 7000 00", "mem 7 0", "place 1 2", "place 4 0", "# no", "", "mem ffffffffffffffff 0000")))
+        lines.insert(rng.randrange(len(lines) + 1), rng.choice(FAULTY_IMAGE_LINES))
     return "\n".join(lines) + rng.choice(("", "\n"))
 
 
 def walks(program: Program, objects: list[tuple[bytes, int]], rng: random.Random) -> list[Difference]:
-    """What differs in walks by the last of these objects with ORC tables, each with the size of its section number 1."""
+    """What differs in walks by the last of these objects with ORC tables."""
     found: list[Difference] = []
-    for data, size in objects[-1:]:
+    for data, _ in objects[-1:]:
         for _ in range(4):
-            image = image_by_lot(size, rng).encode()
+            image = image_by_lot(data, rng).encode()
             found += told_apart(program, {"out.o": data, "image": image}, ["unwind", "out.o", "image"], unwind(data, image))
     return found
 
