@@ -3,4 +3,5 @@ pub mod Kept
 pub mod Memory
 pub mod Pushes
 pub mod Slots
+pub mod Stays
 pub mod Words

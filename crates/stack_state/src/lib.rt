@@ -2,4 +2,13 @@
 //! stack machine.
 #![tactic(auto)]
 
-pub use state_defs::State;
+mod copies;
+mod live;
+mod moves;
+mod numbers;
+mod other_stacks;
+mod realigned;
+mod regs;
+
+pub use moves::{initial, step};
+pub use state_defs::{BpHome, Depth, EndKind, HintState, Phase, SpCopy, State};
