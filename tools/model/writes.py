@@ -60,8 +60,8 @@ def implied(s) -> frozenset[int]:
     return TWO_BYTE.get(s.opcode, nothing)
 
 
-# The maps behind 0F 3A, without and with VEX, and the one behind 0F with EVEX.
-BEHIND_3A, EVEX_1 = (4, 7), 8
+# The maps behind 0F 3A, without and with VEX.
+BEHIND_3A = 4, 7
 
 
 def added(s) -> frozenset[int]:
@@ -71,8 +71,4 @@ def added(s) -> frozenset[int]:
         return frozenset({RAX}) if s.opcode == 0xC7 else frozenset()
     if s.map == 2 and s.opcode in ADDED_SYSTEM:
         return ALL
-    if s.map in BEHIND_3A and 0x60 <= s.opcode <= 0x63:
-        return frozenset({RCX})
-    if s.map == EVEX_1 and s.opcode in (0x78, 0x79):
-        return frozenset({s.reg})
-    return frozenset()
+    return frozenset({RCX}) if s.map in BEHIND_3A and 0x60 <= s.opcode <= 0x63 else frozenset()
