@@ -169,13 +169,14 @@ def read_hint(special: Special, entry: Entry, body: bytes, at: int) -> None:
         "HintOffset": sp_offset < {CALL: 8, REGS: 0, REGS_PARTIAL: 0}.get(kind, sp_offset),
         "HintSignal": signal > {CALL: 0, FUNC: 0, REGS: 1, REGS_PARTIAL: 1}.get(kind, signal),
     }
+    hint = Hint(place, sp_offset, kind, kind in (REGS, REGS_PARTIAL) and signal == 0)
     if special.loose.hold(place):
         # What such code says of a stack that can't be told is that nothing is known of it.
-        special.hints.append(Hint(place, sp_offset, UNDEFINED if any(faults.values()) else kind))
+        special.hints.append(hint._replace(kind=UNDEFINED) if any(faults.values()) else hint)
         return
     for why, is_met in faults.items():
         entry.ask(not is_met, why)
-    special.hints.append(Hint(place, sp_offset, kind, kind in (REGS, REGS_PARTIAL) and signal == 0))
+    special.hints.append(hint)
 
 
 TABLES = (
