@@ -1,7 +1,12 @@
 pub mod Addresses
+pub mod Consistent
 pub mod Kept
 pub mod Memory
+pub mod MovesConsistent
 pub mod Pushes
+pub mod RealignedConsistent
+pub mod Results
 pub mod Slots
 pub mod Stays
+pub mod SwitchingConsistent
 pub mod Words

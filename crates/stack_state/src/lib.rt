@@ -3,6 +3,7 @@
 #![tactic(auto)]
 
 mod copies;
+pub mod laws;
 mod live;
 mod moves;
 mod numbers;

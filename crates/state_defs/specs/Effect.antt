@@ -104,17 +104,17 @@ pub record SavesInCell (c d : Core) : Type 0 where
   pub written : WritesWord at c.rsp c.memory d.memory
   pub core : d ≡ record (acted c d) { memory = d.memory; held = HoldsCell at other; shadow = with_top_cell (Some (record { at = at; value = c.rsp })) c.shadow }
 
--- rsp becomes a register: the address of the cell in which rsp was saved right before, and then its stack is in use; else room is
--- made below it
+-- whether an address is that of the top frame's cell
+abbrev pub is_at_cell : ℕ → List Frame → Bool
+is_at_cell address [] = false
+is_at_cell address (f ∷ fs) = option_map_or (λ cell. address == cell.at) f.cell false
+
+-- rsp becomes a register: the address of the top frame's cell, where rsp was saved in it right before, and then its stack is in use;
+-- else room is made below it
 abbrev pub GoesTo : Held → Core → Core → Type 0
-GoesTo (HoldsCell at other) c d = d ≡ record (acted c d) { rsp = at; stack = other }
+GoesTo (HoldsCell at other) c d = MatchBool (is_at_cell at c.shadow) (d ≡ record (acted c d) { rsp = at; stack = other }) (MakesRoom c d)
 GoesTo HoldsNothing c d = MakesRoom c d
 GoesTo (HoldsBp reg) c d = MakesRoom c d
-
--- rsp is at the cell of the top frame
-abbrev pub is_at_cell : ℕ → List Frame → Bool
-is_at_cell rsp [] = false
-is_at_cell rsp (f ∷ fs) = option_map_or (λ cell. rsp == cell.at) f.cell false
 
 -- whether a register is one to which the instruction before copied rbp
 abbrev pub holds_bp : ℕ → Held → Bool
