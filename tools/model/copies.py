@@ -6,6 +6,7 @@ is wanted and not stale, it is held: a state tells what it is a copy of there, a
 
 from typing import Callable, Iterator, Optional
 
+from ahead import AHEAD
 from opcodes import DRAP, EVERY_REGISTER, RBP, Insn, Stored, copy_of_bp, mask_of, store_at_sp
 from sites import Point
 from special import SAVE
@@ -19,8 +20,8 @@ class Copies:
 
     def __init__(self, flow):
         self.flow = flow
-        self.cells: dict[Point, int] = {point: reg for point in flow.points if (reg := self._cell(point)) is not None}
-        self.behind_cells: set[Point] = {head for point in self.cells for head in flow.after[point]}
+        self.cells: set[Point] = {point for point in flow.points if self._is_cell(point)}
+        self.behind_cells: set[Point] = {head for point in self.cells for head in self._next_points(point)}
         self.next: dict[Point, list[Point]] = {}
         self.before: dict[Point, list[Point]] = {}
         for point in flow.points:
@@ -36,13 +37,14 @@ class Copies:
     def is_held(self, point: Point, reg: int) -> bool:
         return bool(self.wanted.get(point, 0) >> reg & 1) and not self.is_stale(point, reg)
 
-    def _cell(self, point: Point) -> Optional[int]:
-        """The register of a store of rsp to where rsp is set from the same register right behind it."""
-        insn, after = self.flow.insn[point], self.flow.after[point]
-        if insn.op != "StoreSp" or after is None:
-            return None
-        behind = [self.flow.insn[head] for head in after]
-        return insn.reg if all((other.op, other.reg) == ("SpReg", insn.reg) for other in behind) else None
+    def _next_points(self, point: Point) -> list[Point]:
+        return [edge.to for edge in self.flow.edges[point] if edge.kind == "Next"]
+
+    def _is_cell(self, point: Point) -> bool:
+        """Whether rsp is stored at a register to which it goes right behind that."""
+        insn = self.flow.insn[point]
+        behind = [self.flow.insn[head] for head in self._next_points(point)] if insn.op == "StoreSp" else []
+        return bool(behind) and all((other.op, other.reg) == ("SpReg", insn.reg) for other in behind)
 
     def made(self, point: Point) -> int:
         """The register that is set to rsp."""
@@ -106,7 +108,7 @@ class Copies:
         for point in flow.points:
             if flow.insn[point].op == "LeaBpSp" and flow.owner[point] in roomy:
                 made[point] = flow.insn[point]._replace(op="LeaBpRoom")
-        return made | self._stores_of_bp()
+        return made | (self._stores_of_bp() if AHEAD else {})
 
     def _roomy(self, made: dict[Point, Insn]) -> set[int]:
         """The functions that make room below their frame by a register."""

@@ -2,6 +2,7 @@
 
 from typing import NamedTuple, Optional
 
+from ahead import AHEAD
 from elf import GLOBAL, R_PC32, R_PLT32, WEAK, Object, Place
 from functions import Functions
 from instructions import Code
@@ -75,7 +76,7 @@ class Points:
         loose, switching = special.loose, spans_named(object, names.switching)
         self.loose: set[Point] = {point for point, at in self.address.items() if loose.hold(at)}
         self.switching: set[Point] = {point for point, at in self.address.items() if switching.hold(at)}
-        self.hint_at: dict[Point, Hint] = self.own_hints | self._hints_of_replacements() | self._early_hints()
+        self.hint_at: dict[Point, Hint] = self.own_hints | self._hints_of_replacements() | (self._early_hints() if AHEAD else {})
         self.restores: set[Point] = {point for point, hint in self.hint_at.items() if hint.kind == RESTORE}
         self.entries: list[Place] = [f.start for f in functions.list if self.is_entry(f.start)]
         # The points behind each, None at a section's end.
