@@ -4,7 +4,7 @@ ghost use Rattle.std.specs.Prelude.{◌≡◌, ◌↔◌, ◌<◌, ◌+◌, ◌^
 ghost use Rattle.std.specs.Int.Bits.{bit_and};
 ghost use Rattle.operation_defs.specs.Made.{has_register};
 ghost use Rattle.register_search.specs.Edges.{AreEdges, Leads, start_of};
-ghost use Rattle.register_search.specs.Spread.{AddsTo, PassesOn, Reaches, has};
+ghost use Rattle.register_search.specs.Spread.{AddsTo, AreSets, PassesOn, Reaches, has};
 
 use crate::edges::Edges;
 use ot_base::NoMemory;
@@ -22,6 +22,7 @@ impl Spreading {
     fn new(alloc: Global, seeds: Vec<u16>) -> Result<Spreading, NoMemory>
         requires { length seeds.items < 2 ^ 32 }
         ensures sets { IfOk result (λ spreading. spreading.sets.items ≡ seeds.items) }
+        ensures fits { IfOk result (λ spreading. AreSets spreading.sets.items) }
         ensures points { IfOk result (λ spreading. All (λ q. q < length seeds.items) spreading.waiting.items) }
         ensures waiting { IfOk result (λ spreading. (q r : ℕ) → has seeds.items q r ≡ true → Contains spreading.waiting.items q) }
     {
@@ -52,7 +53,13 @@ impl Spreading {
     }
 
     /// Adds registers to the sets of the points to which the edges of a point lead, as far as these accept them.
-    fn pass_on(&mut self, edges: &Edges, accepts: &[u16], a: u32, registers: u16) -> Result<(), NoMemory>
+    fn pass_on(
+        &mut self,
+        edges: &Edges,
+        accepts: &[u16],
+        a: u32,
+        registers: u16,
+    ) -> Result<(), NoMemory>
         requires edges { AreEdges edges.now (length self.old.sets.items) }
         requires accepts { length accepts.now ≡ length self.old.sets.items }
         requires point { a < length self.old.sets.items }
@@ -68,7 +75,13 @@ impl Spreading {
 
 /// The least sets of registers such that each point has its seeds, and each target of a point has those of the point's set that
 /// the point passes and the target accepts. Each edge is looked at as often as the set of its point has grown.
-pub(crate) fn spread(alloc: Global, edges: &Edges, seeds: Vec<u16>, passes: &[u16], accepts: &[u16]) -> Result<Vec<u16>, NoMemory>
+pub(crate) fn spread(
+    alloc: Global,
+    edges: &Edges,
+    seeds: Vec<u16>,
+    passes: &[u16],
+    accepts: &[u16],
+) -> Result<Vec<u16>, NoMemory>
     requires edges { AreEdges edges.now (length seeds.items) }
     requires passes { length passes.now ≡ length seeds.items }
     requires accepts { length accepts.now ≡ length seeds.items }

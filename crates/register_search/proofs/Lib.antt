@@ -1,0 +1,4 @@
+pub mod Ranges
+pub mod Registers
+pub mod Sets
+pub mod Passing
