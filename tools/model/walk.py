@@ -1,7 +1,7 @@
 """`unwind` (docs/FORMATS.md, "Images"): what an image says of a stopped thread, and the frames that a walk over an object's rows gives."""
 
 import re
-from typing import NamedTuple, Optional, Union
+from typing import NamedTuple, Optional
 
 import elf
 from commands import DONE, Answer, answered
