@@ -63,8 +63,8 @@ short_fits Regs n d f h = offsets_fit (with_numbers Regs n) d refl
 short_fits FullRegs n d f h = offsets_fit (with_numbers FullRegs n) d refl
 
 -- a state in a slot
-pub slot_is_near : (s : Slot) (wide : Numbers) → s.is_wide ≡ false → has_16_bits s.depth ≡ true → has_16_bits s.fp ≡ true → has_16_bits s.home ≡ true → has_near_numbers (state_in s wide) ≡ true
+pub slot_is_near : (s : Slot) (wide : State) → s.is_wide ≡ false → has_16_bits s.depth ≡ true → has_16_bits s.fp ≡ true → has_16_bits s.home ≡ true → has_near_numbers (state_in s wide) ≡ true
 slot_is_near s wide short d f h = rw short (short_is_near s.shape (short_numbers s) (near_of s.depth d) (near_of s.fp f) (near_of s.home h))
 
-pub slot_fits : (s : Slot) (wide : Numbers) → s.is_wide ≡ false → has_16_bits s.depth ≡ true → has_16_bits s.fp ≡ true → has_16_bits (neg_ℤ s.home) ≡ true → unfit_offset (state_in s wide) ≡ None
+pub slot_fits : (s : Slot) (wide : State) → s.is_wide ≡ false → has_16_bits s.depth ≡ true → has_16_bits s.fp ≡ true → has_16_bits (neg_ℤ s.home) ≡ true → unfit_offset (state_in s wide) ≡ None
 slot_fits s wide short d f h = rw short (short_fits s.shape (short_numbers s) d f h)

@@ -1,13 +1,17 @@
 -- The order of states is total: neither of two comes before the other where they are equal alone.
-use Rattle.std.proofs.Common.{◌≡◌, Bool, true, false, cond, List, [], ◌∷◌, ◌⊎◌, inl, inr, Option, Some, None, ℤ, pos, refl, ap, sym, ◌∙◌, arith}
+use Rattle.std.proofs.Common.{◌≡◌, Bool, true, false, cond, List, [], ◌∷◌, ◌⊎◌, inl, inr, Option, Some, None, ℕ, ℤ, pos, negsuc, refl, ap, sym, ◌∙◌, arith}
 use Rattle.std.specs.Prelude.{int_lt, ◌<ℤ◌}
 use Rattle.std.proofs.lemmas.Int.{ints}
 use Rattle.state_defs.specs.declared.state.State.{State}
-use Rattle.state_defs.specs.declared.state.State.TheVariants.{Live, Ended, Regs}
+use Rattle.state_defs.specs.declared.state.State.TheVariants.{Live, Ended, Regs, Poised, Switched, Drap}
 use Rattle.state_defs.specs.declared.state.Depth.{Depth}
 use Rattle.state_defs.specs.declared.state.Depth.TheVariants.{Known, AtLeast}
 use Rattle.state_defs.specs.declared.state.BpHome.{BpHome}
 use Rattle.state_defs.specs.declared.state.BpHome.TheVariants.{Same, Saved}
+use Rattle.operation_defs.specs.declared.op.DrapRegister.{DrapRegister}
+use Rattle.operation_defs.specs.declared.op.DrapRegister.TheVariants.{R10, R13}
+use Rattle.state_defs.specs.declared.state.Phase.{Phase}
+use Rattle.state_defs.specs.declared.state.Phase.TheVariants.{Bare, Pushed, Framed, Homed}
 use Rattle.state_defs.specs.declared.state.EndKind.{EndKind}
 use Rattle.state_defs.specs.declared.state.EndKind.TheVariants.{Undefined, EndOfStack}
 use Rattle.state_defs.specs.Order.{key_before, state_key, comes_before}
@@ -85,26 +89,78 @@ home_from kind o = cond (int_lt (pos 0) kind) (Saved o) Same
 end_from : ℤ → EndKind
 end_from kind = cond (int_lt (pos 0) kind) EndOfStack Undefined
 
+reg_from : ℤ → ℕ
+reg_from (pos n) = n
+reg_from (negsuc n) = 0
+
+drap_from : ℤ → DrapRegister
+drap_from reg = cond (int_lt (pos 10) reg) R13 R10
+
+phase_from : ℤ → ℤ → Phase
+phase_from kind n = cond (int_lt (pos 1) kind) (Framed n) (cond (int_lt (pos 0) kind) (Pushed n) (Bare n))
+
 state_from : List ℤ → State
-state_from (v ∷ a ∷ n ∷ b ∷ m ∷ c ∷ o ∷ rest) = Live (depth_from a n) (fp_from b m) (home_from c o)
+state_from (v ∷ a ∷ n ∷ b ∷ m ∷ c ∷ o ∷ k ∷ []) = Live (depth_from a n) (fp_from b m) (home_from c o) None
+state_from (v ∷ a ∷ n ∷ b ∷ m ∷ c ∷ o ∷ k ∷ r ∷ d ∷ x ∷ rest) = Live (depth_from a n) (fp_from b m) (home_from c o) (Some (record { reg = reg_from r; depth = depth_from d x }))
 state_from (v ∷ a ∷ []) = Ended (end_from a)
-state_from (v ∷ a ∷ n ∷ []) = Regs (int_lt (pos 0) a) n
+state_from (v ∷ a ∷ n ∷ t ∷ []) = cond (int_lt (pos 2) v) (Drap (drap_from a) (phase_from n t)) (Regs (int_lt (pos 0) a) n (int_lt (pos 0) t))
+state_from (v ∷ a ∷ n ∷ b ∷ m ∷ c ∷ o ∷ []) = Poised (depth_from a n) (fp_from b m) (home_from c o)
+state_from (v ∷ n ∷ c ∷ o ∷ b ∷ m ∷ []) = Switched n (home_from c o) (fp_from b m)
+state_from (v ∷ r ∷ k ∷ s ∷ h ∷ []) = Drap (drap_from r) (Homed s h)
 state_from _ = Ended Undefined
 
 state_from-key : (s : State) → state_from (state_key s) ≡ s
-unfolding state_from depth_from fp_from home_from end_from
-state_from-key (Live (Known n) None Same) = refl
-state_from-key (Live (Known n) None (Saved o)) = refl
-state_from-key (Live (Known n) (Some m) Same) = refl
-state_from-key (Live (Known n) (Some m) (Saved o)) = refl
-state_from-key (Live (AtLeast n) None Same) = refl
-state_from-key (Live (AtLeast n) None (Saved o)) = refl
-state_from-key (Live (AtLeast n) (Some m) Same) = refl
-state_from-key (Live (AtLeast n) (Some m) (Saved o)) = refl
+unfolding state_from depth_from fp_from home_from end_from reg_from drap_from phase_from
+state_from-key (Live (Known n) None Same None) = refl
+state_from-key (Live (Known n) None Same (Some (record { reg = r; depth = Known k }))) = refl
+state_from-key (Live (Known n) None Same (Some (record { reg = r; depth = AtLeast k }))) = refl
+state_from-key (Live (Known n) None (Saved o) None) = refl
+state_from-key (Live (Known n) None (Saved o) (Some (record { reg = r; depth = Known k }))) = refl
+state_from-key (Live (Known n) None (Saved o) (Some (record { reg = r; depth = AtLeast k }))) = refl
+state_from-key (Live (Known n) (Some m) Same None) = refl
+state_from-key (Live (Known n) (Some m) Same (Some (record { reg = r; depth = Known k }))) = refl
+state_from-key (Live (Known n) (Some m) Same (Some (record { reg = r; depth = AtLeast k }))) = refl
+state_from-key (Live (Known n) (Some m) (Saved o) None) = refl
+state_from-key (Live (Known n) (Some m) (Saved o) (Some (record { reg = r; depth = Known k }))) = refl
+state_from-key (Live (Known n) (Some m) (Saved o) (Some (record { reg = r; depth = AtLeast k }))) = refl
+state_from-key (Live (AtLeast n) None Same None) = refl
+state_from-key (Live (AtLeast n) None Same (Some (record { reg = r; depth = Known k }))) = refl
+state_from-key (Live (AtLeast n) None Same (Some (record { reg = r; depth = AtLeast k }))) = refl
+state_from-key (Live (AtLeast n) None (Saved o) None) = refl
+state_from-key (Live (AtLeast n) None (Saved o) (Some (record { reg = r; depth = Known k }))) = refl
+state_from-key (Live (AtLeast n) None (Saved o) (Some (record { reg = r; depth = AtLeast k }))) = refl
+state_from-key (Live (AtLeast n) (Some m) Same None) = refl
+state_from-key (Live (AtLeast n) (Some m) Same (Some (record { reg = r; depth = Known k }))) = refl
+state_from-key (Live (AtLeast n) (Some m) Same (Some (record { reg = r; depth = AtLeast k }))) = refl
+state_from-key (Live (AtLeast n) (Some m) (Saved o) None) = refl
+state_from-key (Live (AtLeast n) (Some m) (Saved o) (Some (record { reg = r; depth = Known k }))) = refl
+state_from-key (Live (AtLeast n) (Some m) (Saved o) (Some (record { reg = r; depth = AtLeast k }))) = refl
 state_from-key (Ended Undefined) = refl
 state_from-key (Ended EndOfStack) = refl
-state_from-key (Regs true n) = refl
-state_from-key (Regs false n) = refl
+state_from-key (Regs true n true) = refl
+state_from-key (Regs true n false) = refl
+state_from-key (Regs false n true) = refl
+state_from-key (Regs false n false) = refl
+state_from-key (Poised (Known n) None Same) = refl
+state_from-key (Poised (Known n) None (Saved o)) = refl
+state_from-key (Poised (Known n) (Some m) Same) = refl
+state_from-key (Poised (Known n) (Some m) (Saved o)) = refl
+state_from-key (Poised (AtLeast n) None Same) = refl
+state_from-key (Poised (AtLeast n) None (Saved o)) = refl
+state_from-key (Poised (AtLeast n) (Some m) Same) = refl
+state_from-key (Poised (AtLeast n) (Some m) (Saved o)) = refl
+state_from-key (Switched n Same None) = refl
+state_from-key (Switched n Same (Some m)) = refl
+state_from-key (Switched n (Saved o) None) = refl
+state_from-key (Switched n (Saved o) (Some m)) = refl
+state_from-key (Drap R10 (Bare n)) = refl
+state_from-key (Drap R10 (Pushed n)) = refl
+state_from-key (Drap R10 (Framed n)) = refl
+state_from-key (Drap R10 (Homed n h)) = refl
+state_from-key (Drap R13 (Bare n)) = refl
+state_from-key (Drap R13 (Pushed n)) = refl
+state_from-key (Drap R13 (Framed n)) = refl
+state_from-key (Drap R13 (Homed n h)) = refl
 
 -- a key tells its state
 key_tells : (one other : State) → state_key one ≡ state_key other → one ≡ other

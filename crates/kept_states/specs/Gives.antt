@@ -2,12 +2,14 @@
 use Rattle.std.specs.Prelude.{◌≡◌, ◌⊎◌, ℕ, true, false, List, Option, Some, Contains, IsSome}
 use Rattle.state_defs.specs.declared.state.State.{State}
 use Rattle.state_defs.specs.declared.state.HintState.TheVariants.{Restore}
+use Rattle.state_defs.specs.State.{held_by}
 use Rattle.machine_defs.specs.Program.{Program, IsPoint}
 use Rattle.machine_defs.specs.Kept.{Brings, is_free, state_at}
 
--- point a with state s gives point q the state t: what it brings along an edge, or to a RESTORE that means it its own
+-- point a with state s gives point q the state t: what it brings along an edge, or to a RESTORE that means it its own, with the copy
+-- of rsp that is held there
 abbrev pub Gives : Program → ℕ → State → ℕ → State → Type 0
-Gives p a s q t = (p.unchecked q ≡ false) × (((is_free (p.hint q) ≡ true) × Brings p a s q t) ⊎ ((p.hint q ≡ Some Restore) × (p.save_of q ≡ Some a) × (t ≡ s)))
+Gives p a s q t = (p.unchecked q ≡ false) × (((is_free (p.hint q) ≡ true) × Brings p a s q t) ⊎ ((p.hint q ≡ Some Restore) × (p.save_of q ≡ Some a) × (t ≡ held_by (p.held q) s)))
 
 -- one of these points gives it, each with the state that it has
 abbrev pub IsGiven : Program → (ℕ → Option State) → List ℕ → ℕ → State → Type 0

@@ -25,7 +25,7 @@ fn leaves_state(graph: &Graph, levels: &Levels, n: u32) -> bool
     if !levels.is_short(n) {
         return false;
     }
-    is_neutral(graph.insn(n).op)
+    is_neutral(graph.op(n))
 }
 
 /// Whether a point is known to have given in this batch, and its operation to leave its state as it is, so that it gave

@@ -1,18 +1,19 @@
 //! What a kept point gives to others.
 
-ghost use Rattle.std.specs.Prelude.{◌≡◌, ◌<◌, ◌∷◌, [], IfSome, Some, length, slice_index};
+ghost use Rattle.std.specs.Prelude.{◌≡◌, ◌<◌, ◌∷◌, [], IfSome, Some, length, map, slice_index};
 ghost use Rattle.state_defs.specs.declared.state.State.{State};
+ghost use Rattle.state_defs.specs.State.{held_by};
 ghost use Rattle.machine_defs.specs.Program.{Program};
-ghost use Rattle.machine_defs.specs.Kept.{brought_along, moved as moved_by, moved_at};
+ghost use Rattle.machine_defs.specs.Kept.{moved as moved_by, moved_at};
 ghost use Rattle.program_graph.specs.Tells.{Tells};
 ghost use Rattle.kept_states.specs.LevelStates.{StaysSame, at};
 ghost use Rattle.kept_states.specs.Passages.{ArePassages};
-ghost use Rattle.kept_states.specs.Told.{Lasts, given_along, given_to_restore, offer_all};
+ghost use Rattle.kept_states.specs.Told.{Lasts, brought_held, given_along, given_to_restore, offer_all};
 
+use crate::held::packed_held_at;
 use crate::levels::Levels;
 use crate::moves::stepped;
-use crate::packed::PackedState;
-use crate::parts::NO_NUMBERS;
+use crate::packed::{NO_STATE, PackedState};
 use crate::passages::{Passage, passage_at};
 use crate::slot::Slot;
 use machine_defs::{Edge, EdgeKind};
@@ -40,7 +41,8 @@ pub(crate) fn lasting_slot(
     }
 }
 
-/// Offers a point the state of the one at a place in front, moved by its operation, if that isn't refused.
+/// Offers a point the state of the one at a place in front, moved by its operation, if that isn't refused, with the copy of rsp
+/// that is held there.
 #[inline(never)]
 fn offer_stepped(graph: &Graph, levels: &mut Levels, i: usize, from: u32, to: u32)
     requires points { length levels.old.kept ≡ length graph.now.parts.points.items }
@@ -53,10 +55,10 @@ fn offer_stepped(graph: &Graph, levels: &mut Levels, i: usize, from: u32, to: u3
     ensures done { levels.new.done ≡ levels.old.done }
     ensures same { StaysSame levels.old levels.new }
     ensures len { length levels.new.next.states ≡ length levels.old.next.states }
-    ensures next { (p : Program) (s : State) → Tells p graph.now.parts → at levels.old.kept from ≡ Some s → levels.new.next ≡ offer_all levels.old.kept levels.old.next to (moved_by (moved_at p from s)) }
+    ensures next { (p : Program) (s : State) → Tells p graph.now.parts → at levels.old.kept from ≡ Some s → levels.new.next ≡ offer_all levels.old.kept levels.old.next to (map (held_by (p.held to)) (moved_by (moved_at p from s))) }
 {
     if let Some(after) = stepped(graph, from, levels.front_state(i)) {
-        levels.offer(to, after);
+        levels.offer(to, packed_held_at(graph, to, after));
     }
 }
 
@@ -74,12 +76,12 @@ fn offer_changed(graph: &Graph, levels: &mut Levels, i: usize, from: u32, to: u3
     ensures done { levels.new.done ≡ levels.old.done }
     ensures same { StaysSame levels.old levels.new }
     ensures len { length levels.new.next.states ≡ length levels.old.next.states }
-    ensures next { (p : Program) (s : State) → Tells p graph.now.parts → at levels.old.kept from ≡ Some s → levels.new.next ≡ offer_all levels.old.kept levels.old.next to (moved_by (moved_at p from s)) }
+    ensures next { (p : Program) (s : State) → Tells p graph.now.parts → at levels.old.kept from ≡ Some s → levels.new.next ≡ offer_all levels.old.kept levels.old.next to (map (held_by (p.held to)) (moved_by (moved_at p from s))) }
 {
     let before = levels.front_slot(i);
-    match before.quickly_moved(graph.insn(from).op) {
+    match before.quickly_moved(graph.op(from)) {
         Some(slot) => {
-            let wide = NO_NUMBERS;
+            let wide = NO_STATE;
             levels.offer(to, PackedState { slot, wide });
         }
         None => offer_stepped(graph, levels, i, from, to),
@@ -108,19 +110,20 @@ pub(crate) fn offer_moved(
     ensures done { levels.new.done ≡ levels.old.done }
     ensures same { StaysSame levels.old levels.new }
     ensures len { length levels.new.next.states ≡ length levels.old.next.states }
-    ensures next { (p : Program) (s : State) → Tells p graph.now.parts → at levels.old.kept from ≡ Some s → levels.new.next ≡ offer_all levels.old.kept levels.old.next to (moved_by (moved_at p from s)) }
+    ensures next { (p : Program) (s : State) → Tells p graph.now.parts → at levels.old.kept from ≡ Some s → levels.new.next ≡ offer_all levels.old.kept levels.old.next to (map (held_by (p.held to)) (moved_by (moved_at p from s))) }
 {
     match lasting {
         Some(slot) => {
-            let wide = NO_NUMBERS;
+            let wide = NO_STATE;
             levels.offer(to, PackedState { slot, wide });
         }
         None => offer_changed(graph, levels, i, from, to),
     }
 }
 
-/// Offers a point the state of the one at a place in front.
-fn offer_same(levels: &mut Levels, i: usize, to: u32)
+/// Offers a point the state of the one at a place in front, with the copy of rsp that is held there.
+fn offer_same(graph: &Graph, levels: &mut Levels, i: usize, to: u32)
+    requires points { length levels.old.kept ≡ length graph.now.parts.points.items }
     requires inside { i < length levels.old.front }
     requires point { to < length levels.old.kept }
     ensures kept { levels.new.kept ≡ levels.old.kept }
@@ -128,9 +131,9 @@ fn offer_same(levels: &mut Levels, i: usize, to: u32)
     ensures done { levels.new.done ≡ levels.old.done }
     ensures same { StaysSame levels.old levels.new }
     ensures len { length levels.new.next.states ≡ length levels.old.next.states }
-    ensures next { (s : State) → at levels.old.kept (slice_index levels.old.front i) ≡ Some s → levels.new.next ≡ offer_all levels.old.kept levels.old.next to (s ∷ []) }
+    ensures next { (p : Program) (s : State) → Tells p graph.now.parts → at levels.old.kept (slice_index levels.old.front i) ≡ Some s → levels.new.next ≡ offer_all levels.old.kept levels.old.next to (held_by (p.held to) s ∷ []) }
 {
-    levels.offer(to, levels.front_state(i));
+    levels.offer(to, packed_held_at(graph, to, levels.front_state(i)));
 }
 
 /// Offers the point at an edge's end what the one at a place in front brings along it: to a fixup its state before the
@@ -147,13 +150,13 @@ fn bring_changed(graph: &Graph, levels: &mut Levels, i: usize, from: u32, edge: 
     ensures done { levels.new.done ≡ levels.old.done }
     ensures same { StaysSame levels.old levels.new }
     ensures len { length levels.new.next.states ≡ length levels.old.next.states }
-    ensures next { (p : Program) (s : State) → Tells p graph.now.parts → at levels.old.kept from ≡ Some s → levels.new.next ≡ offer_all levels.old.kept levels.old.next edge.to (brought_along s (moved_at p from s) edge.kind) }
+    ensures next { (p : Program) (s : State) → Tells p graph.now.parts → at levels.old.kept from ≡ Some s → levels.new.next ≡ offer_all levels.old.kept levels.old.next edge.to (brought_held p s (moved_at p from s) edge) }
 {
     match edge.kind {
         EdgeKind::Next | EdgeKind::Taken | EdgeKind::Table => {
             offer_changed(graph, levels, i, from, edge.to);
         }
-        EdgeKind::Fixup => offer_same(levels, i, edge.to),
+        EdgeKind::Fixup => offer_same(graph, levels, i, edge.to),
         EdgeKind::Sibling => {}
     }
 }
@@ -180,7 +183,7 @@ fn bring_along(
     ensures done { levels.new.done ≡ levels.old.done }
     ensures same { StaysSame levels.old levels.new }
     ensures len { length levels.new.next.states ≡ length levels.old.next.states }
-    ensures next { (p : Program) (s : State) → Tells p graph.now.parts → at levels.old.kept from ≡ Some s → levels.new.next ≡ offer_all levels.old.kept levels.old.next edge.to (brought_along s (moved_at p from s) edge.kind) }
+    ensures next { (p : Program) (s : State) → Tells p graph.now.parts → at levels.old.kept from ≡ Some s → levels.new.next ≡ offer_all levels.old.kept levels.old.next edge.to (brought_held p s (moved_at p from s) edge) }
 {
     let Some(slot) = lasting else {
         bring_changed(graph, levels, i, from, edge);
@@ -189,7 +192,7 @@ fn bring_along(
     if edge.kind == EdgeKind::Sibling {
         return;
     }
-    let wide = NO_NUMBERS;
+    let wide = NO_STATE;
     levels.offer(edge.to, PackedState { slot, wide });
 }
 
@@ -238,6 +241,6 @@ pub(crate) fn give_to_restore(graph: &Graph, levels: &mut Levels, i: usize, rest
     ensures next { (p : Program) (s : State) → Tells p graph.now.parts → at levels.old.kept (slice_index levels.old.front i) ≡ Some s → levels.new.next ≡ offer_all levels.old.kept levels.old.next restore (given_to_restore p s restore) }
 {
     if !graph.unchecked(restore) {
-        offer_same(levels, i, restore);
+        offer_same(graph, levels, i, restore);
     }
 }

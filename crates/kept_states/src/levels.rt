@@ -7,7 +7,8 @@ ghost use Rattle.machine_defs.specs.Kept.{kept_or};
 ghost use Rattle.kept_states.specs.Done.{done_of};
 ghost use Rattle.kept_states.specs.LevelStates.{LevelStates, StaysSame, at, count_open, is_settled, offered};
 ghost use Rattle.kept_states.specs.Reached.{AreOrdered, AreReached, kept_at, offered_at, settled_at};
-ghost use Rattle.kept_states.specs.declared.parts.Numbers.{Numbers as NumbersValue};
+ghost use Rattle.state_defs.specs.declared.state.State.{State as StateValue};
+ghost use Rattle.kept_states.specs.Neutral.{is_usual};
 ghost use Rattle.kept_states.specs.Packed.{state_in, state_of};
 
 use crate::done::{Batch, NO_BATCH};
@@ -28,7 +29,7 @@ const NOWHERE: u32 = u32::MAX;
 ///
 /// The points that are reached stand in the order in which they were: those of level 0, those that were kept in earlier
 /// batches, those that are kept in this one, and those that were offered a state for the next level. A point takes 16
-/// bytes, and 24 more up to the last one that was offered a wide state.
+/// bytes, and 88 more up to the last one that was offered a wide state.
 #[derive(Drop)]
 pub(crate) struct Levels {
     /// By point, its place among those that are reached.
@@ -123,10 +124,11 @@ impl Levels {
         (self.places[n as usize] as usize) < self.kept
     }
 
-    /// Whether a point keeps a state whose numbers have 16 bits, and so have the offsets of its row.
+    /// Whether a point keeps a usual state whose numbers have 16 bits, and so have the offsets of its row.
     pub(crate) fn is_short(&self, n: u32) -> bool
         requires { n < length self.now.kept }
         ensures some { IsTrue result → IsSome (at self.now.kept n) }
+        ensures usual { IsTrue result → (s : State) → at self.now.kept n ≡ Some s → is_usual s ≡ true }
         ensures near { IsTrue result → (s : State) → at self.now.kept n ≡ Some s → has_near_numbers s ≡ true }
         ensures fit { IsTrue result → (s : State) → at self.now.kept n ≡ Some s → unfit_offset s ≡ None }
     {
@@ -189,7 +191,7 @@ impl Levels {
     #[inline(always)]
     pub(crate) fn front_slot(&self, i: usize) -> Slot
         requires { i < length self.now.front }
-        ensures { (wide : NumbersValue) × (at self.now.kept (slice_index self.now.front i) ≡ Some (state_in result wide)) }
+        ensures { (wide : StateValue) × (at self.now.kept (slice_index self.now.front i) ≡ Some (state_in result wide)) }
     {
         self.states.slot(self.front_from + i)
     }

@@ -6,6 +6,7 @@ mod alike;
 mod batches;
 mod done;
 mod gifts;
+mod held;
 mod levels;
 mod moves;
 mod neutral;
@@ -18,6 +19,7 @@ mod runs;
 mod slot;
 mod spreading;
 
+pub use held::held_at;
 pub use moves::step_at;
 pub use neutral::is_neutral;
 pub use spreading::{Kept, Scratch, spread};

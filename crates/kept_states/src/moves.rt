@@ -28,7 +28,7 @@ pub fn step_at(graph: &Graph, n: u32, state: State) -> Result<State, u8>
     requires { n < length graph.now.parts.points.items }
     ensures { (p : Program) → Tells p graph.now.parts → result ≡ moved_at p n state }
 {
-    match step(state, graph.insn(n).op) {
+    match step(state, graph.op(n)) {
         Ok(after) => Ok(after),
         Err(rule) => {
             if loses_stack(rule) && graph.loose(n) {

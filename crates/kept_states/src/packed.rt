@@ -1,32 +1,31 @@
-//! A state in 32 bytes, as it is handed on.
+//! A state as it is handed on.
 
 ghost use Rattle.std.specs.Prelude.{◌≡◌, IsTrue, Ok};
 ghost use Rattle.state_defs.specs.Move.{move};
 ghost use Rattle.kept_states.specs.Packed.{state_of};
 
-use crate::parts::{Numbers, Parts};
 use crate::slot::Slot;
 use operation_defs::Op;
-use state_defs::State;
+use state_defs::{EndKind, State};
 
-/// A state in its slot, and beside it the numbers that it has where the slot is wide; else they say nothing.
+/// That of a slot which isn't wide.
+pub(crate) const NO_STATE: State = State::Ended(EndKind::Undefined);
+
+/// A state in its slot, and beside it the state where the slot is wide; else that says nothing.
 #[derive(Clone, Copy)]
 pub(crate) struct PackedState {
     pub(crate) slot: Slot,
-    pub(crate) wide: Numbers,
+    pub(crate) wide: State,
 }
-
-const _: () = prove!(size_of::<PackedState>() == 32);
 
 impl PackedState {
     /// A state in its packed form.
     pub(crate) fn new(state: State) -> PackedState
         ensures { state_of result ≡ state }
     {
-        let parts = Parts::of(state);
         PackedState {
-            slot: Slot::new(&parts),
-            wide: parts.numbers,
+            slot: Slot::new(state),
+            wide: state,
         }
     }
 
@@ -34,12 +33,11 @@ impl PackedState {
     pub(crate) fn state(self) -> State
         ensures { result ≡ state_of self }
     {
-        let numbers = if self.slot.is_wide() {
+        if self.slot.is_wide() {
             self.wide
         } else {
-            self.slot.numbers()
-        };
-        self.slot.with(numbers).state()
+            self.slot.state()
+        }
     }
 
     /// Whether it is quickly seen that an operation moves the state to another one.

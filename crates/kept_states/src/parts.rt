@@ -1,11 +1,11 @@
-//! The shape and the numbers of a state.
+//! The shape and the numbers of a usual state: one without a copy of rsp, on one stack, whose frame's top no register holds.
 
-ghost use Rattle.std.specs.Prelude.{◌≡◌, pos};
+ghost use Rattle.std.specs.Prelude.{◌≡◌, IfSome, None, false, pos};
 ghost use Rattle.kept_states.specs.Packed.{state_of_parts};
 
 use state_defs::{BpHome, Depth, EndKind, State};
 
-/// Which state it is, but for its numbers.
+/// Which usual state it is, but for its numbers.
 ///
 /// The first eight are live: the depth is known or a least one; framed where rbp is a frame pointer; saved where the
 /// caller's rbp is.
@@ -25,7 +25,7 @@ pub(crate) enum Shape {
     FullRegs,
 }
 
-/// The numbers of a state: its depth, rbp as a frame pointer, and where the caller's rbp is saved. One that it doesn't
+/// The numbers of a usual state: its depth, rbp as a frame pointer, and where the caller's rbp is saved. One that it doesn't
 /// have is 0.
 #[derive(Clone, Copy)]
 pub(crate) struct Numbers {
@@ -34,22 +34,16 @@ pub(crate) struct Numbers {
     pub(crate) home: i64,
 }
 
-pub(crate) const NO_NUMBERS: Numbers = Numbers {
-    depth: 0,
-    fp: 0,
-    home: 0,
-};
-
-/// A state as its shape and its numbers.
+/// A usual state as its shape and its numbers.
 #[derive(Clone, Copy)]
 pub(crate) struct Parts {
     pub(crate) shape: Shape,
     pub(crate) numbers: Numbers,
 }
 
-/// The parts of a live state.
+/// The parts of a live state without a copy of rsp.
 fn live_parts(depth: Depth, fp: Option<i64>, bp: BpHome) -> Parts
-    ensures { state_of_parts result ≡ State.Live depth fp bp }
+    ensures { state_of_parts result ≡ State.Live depth fp bp None }
 {
     let (shape, depth, fp, home) = match (depth, fp, bp) {
         (Depth::Known(depth), None, BpHome::Same) => (Shape::Known, depth, 0, 0),
@@ -88,16 +82,34 @@ fn shape_parts(shape: Shape, depth: i64) -> Parts
 }
 
 impl Parts {
-    /// The parts of a state.
-    pub(crate) fn of(state: State) -> Parts
-        ensures { state_of_parts result ≡ state }
+    /// The parts of a state, where it is usual.
+    pub(crate) fn of(state: State) -> Option<Parts>
+        ensures { IfSome result (λ parts. state_of_parts parts ≡ state) }
     {
         match state {
-            State::Live { depth, fp, bp } => live_parts(depth, fp, bp),
-            State::Ended(EndKind::Undefined) => shape_parts(Shape::Undefined, 0),
-            State::Ended(EndKind::EndOfStack) => shape_parts(Shape::EndOfStack, 0),
-            State::Regs { full: false, depth } => shape_parts(Shape::Regs, depth),
-            State::Regs { full: true, depth } => shape_parts(Shape::FullRegs, depth),
+            State::Live {
+                depth,
+                fp,
+                bp,
+                copy: None,
+            } => Some(live_parts(depth, fp, bp)),
+            State::Ended(EndKind::Undefined) => Some(shape_parts(Shape::Undefined, 0)),
+            State::Ended(EndKind::EndOfStack) => Some(shape_parts(Shape::EndOfStack, 0)),
+            State::Regs {
+                full: false,
+                depth,
+                trap: false,
+            } => Some(shape_parts(Shape::Regs, depth)),
+            State::Regs {
+                full: true,
+                depth,
+                trap: false,
+            } => Some(shape_parts(Shape::FullRegs, depth)),
+            State::Live { copy: Some(_), .. }
+            | State::Regs { trap: true, .. }
+            | State::Poised { .. }
+            | State::Switched { .. }
+            | State::Drap { .. } => None,
         }
     }
 
@@ -117,14 +129,27 @@ impl Parts {
             Shape::AtLeastFramedSaved => live(Depth::AtLeast(depth), Some(fp), BpHome::Saved(home)),
             Shape::Undefined => State::Ended(EndKind::Undefined),
             Shape::EndOfStack => State::Ended(EndKind::EndOfStack),
-            Shape::Regs => State::Regs { full: false, depth },
-            Shape::FullRegs => State::Regs { full: true, depth },
+            Shape::Regs => State::Regs {
+                full: false,
+                depth,
+                trap: false,
+            },
+            Shape::FullRegs => State::Regs {
+                full: true,
+                depth,
+                trap: false,
+            },
         }
     }
 }
 
 fn live(depth: Depth, fp: Option<i64>, bp: BpHome) -> State
-    ensures { result ≡ State.Live depth fp bp }
+    ensures { result ≡ State.Live depth fp bp None }
 {
-    State::Live { depth, fp, bp }
+    State::Live {
+        depth,
+        fp,
+        bp,
+        copy: None,
+    }
 }

@@ -188,7 +188,7 @@ pub(crate) fn rare_passage(graph: &Graph, n: u32, is_checked: bool) -> Passage
     if !takes_states(graph, n) {
         return Passage::Closed;
     }
-    open_passage(graph, n, graph.insn(n).op)
+    open_passage(graph, n, graph.op(n))
 }
 
 /// How states pass a usual point with this operation, whose owner is checked, where it gives to the next one alone.

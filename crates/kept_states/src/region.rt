@@ -3,12 +3,12 @@
 ghost use Rattle.std.specs.Prelude.{◌≡◌, ◌≢◌, ◌<◌, ◌++◌, ◌∷◌, ℕ, [], IfOk, IsTrue, None, Some, length, slice_get, slice_set, true, vec_capacity};
 ghost use Rattle.state_defs.specs.Move.{has_near_numbers};
 ghost use Rattle.state_defs.specs.Row.{unfit_offset};
-ghost use Rattle.kept_states.specs.declared.parts.Numbers.{Numbers as NumbersValue};
-ghost use Rattle.kept_states.specs.Packed.{numbers_at, state_in, state_of};
+ghost use Rattle.state_defs.specs.declared.state.State.{State as StateValue};
+ghost use Rattle.kept_states.specs.Neutral.{is_usual};
+ghost use Rattle.kept_states.specs.Packed.{state_in, state_of, wide_at};
 ghost use Rattle.kept_states.specs.Region.{RegionStates};
 
-use crate::packed::PackedState;
-use crate::parts::{NO_NUMBERS, Numbers};
+use crate::packed::{NO_STATE, PackedState};
 use crate::slot::Slot;
 use ot_base::NoMemory;
 use state_defs::State;
@@ -17,22 +17,22 @@ use std::marker::Model;
 
 /// States by place from 0 on. Contracts see it as the list of them, and how many there is room for (`RegionStates`).
 ///
-/// A state takes 8 bytes, and 24 more up to the last one that was wide.
+/// A state takes 8 bytes, and 88 more up to the last one that was wide.
 #[derive(Drop)]
 pub(crate) struct Region {
     slots: Vec<Slot>,
-    /// By place, the numbers of those states that are wide. Behind its end they are 0.
-    wide: Vec<Numbers>,
+    /// By place, those states that are wide.
+    wide: Vec<State>,
 }
 
 impl Model for Region {
     ghost use Rattle.std.specs.Prelude.{◌≤◌, vec_capacity};
-    ghost use Rattle.kept_states.specs.Packed.{numbers_at, states_in};
+    ghost use Rattle.kept_states.specs.Packed.{states_in, wide_at};
     ghost use Rattle.kept_states.specs.Region.{RegionStates};
 
     ghost Value = { RegionStates };
 
-    ghost view = { λ r. record { list = states_in r.slots.items (numbers_at r.wide.items); room = vec_capacity r.slots } };
+    ghost view = { λ r. record { list = states_in r.slots.items (wide_at r.wide.items); room = vec_capacity r.slots } };
 
     ghost invariant = { λ r. vec_capacity r.slots ≤ vec_capacity r.wide };
 }
@@ -67,7 +67,7 @@ impl Region {
     #[inline(always)]
     pub(crate) fn slot(&self, place: usize) -> Slot
         requires { place < length self.now.list }
-        ensures { (wide : NumbersValue) × (slice_get self.now.list place ≡ Some (state_in result wide)) }
+        ensures { (wide : StateValue) × (slice_get self.now.list place ≡ Some (state_in result wide)) }
     {
         self.slots[place]
     }
@@ -82,19 +82,20 @@ impl Region {
         if slot.is_wide() {
             PackedState {
                 slot,
-                wide: wide_numbers(&self.wide, place),
+                wide: wide_state(&self.wide, place),
             }
         } else {
             PackedState {
                 slot,
-                wide: NO_NUMBERS,
+                wide: NO_STATE,
             }
         }
     }
 
-    /// Whether the numbers of the state at a place have 16 bits, and so have the offsets of its row.
+    /// Whether the state at a place is usual, its numbers have 16 bits, and so have the offsets of its row.
     pub(crate) fn is_short(&self, place: usize) -> bool
         requires { place < length self.now.list }
+        ensures usual { IsTrue result → (s : State) → slice_get self.now.list place ≡ Some s → is_usual s ≡ true }
         ensures near { IsTrue result → (s : State) → slice_get self.now.list place ≡ Some s → has_near_numbers s ≡ true }
         ensures fit { IsTrue result → (s : State) → slice_get self.now.list place ≡ Some s → unfit_offset s ≡ None }
     {
@@ -143,27 +144,27 @@ impl Region {
     }
 }
 
-/// The numbers of the wide state at a place.
-fn wide_numbers(wide: &Vec<Numbers>, place: usize) -> Numbers
-    ensures { result ≡ numbers_at wide.now.items place }
+/// The wide state at a place.
+fn wide_state(wide: &Vec<State>, place: usize) -> State
+    ensures { result ≡ wide_at wide.now.items place }
 {
     if place < wide.len() {
         wide[place]
     } else {
-        NO_NUMBERS
+        NO_STATE
     }
 }
 
-/// Puts numbers at a place. There is room for it.
+/// Puts a wide state at a place. There is room for it.
 #[inline(never)]
-fn put_wide(wide: &mut Vec<Numbers>, place: usize, numbers: Numbers)
+fn put_wide(wide: &mut Vec<State>, place: usize, state: State)
     requires { place < vec_capacity wide.old }
     ensures capacity { vec_capacity wide.new ≡ vec_capacity wide.old }
-    ensures here { numbers_at wide.new.items place ≡ numbers }
-    ensures elsewhere { (k : ℕ) → k ≢ place → numbers_at wide.new.items k ≡ numbers_at wide.old.items k }
+    ensures here { wide_at wide.new.items place ≡ state }
+    ensures elsewhere { (k : ℕ) → k ≢ place → wide_at wide.new.items k ≡ wide_at wide.old.items k }
 {
     while wide.len() <= place {
-        wide.push_reserved(NO_NUMBERS);
+        wide.push_reserved(NO_STATE);
     }
-    wide[place] = numbers;
+    wide[place] = state;
 }

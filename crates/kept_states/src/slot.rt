@@ -1,17 +1,20 @@
 //! A state in 8 bytes.
 
-ghost use Rattle.std.specs.Prelude.{◌≡◌, IfSome, IsTrue, None, Ok, false, not, true};
+ghost use Rattle.std.specs.Prelude.{◌≡◌, IfSome, IsTrue, None, Ok, false, true};
+ghost use Rattle.operation_defs.specs.declared.op.DrapRegister.{DrapRegister};
+ghost use Rattle.state_defs.specs.declared.state.State.{State as StateValue};
 ghost use Rattle.state_defs.specs.Move.{has_near_numbers, move};
 ghost use Rattle.state_defs.specs.Row.{has_16_bits as has_16_bits_spec, unfit_offset};
-ghost use Rattle.kept_states.specs.declared.parts.Numbers.{Numbers as NumbersValue};
-ghost use Rattle.kept_states.specs.Packed.{has_short_numbers, short_numbers, state_in};
+ghost use Rattle.kept_states.specs.Neutral.{is_usual};
+ghost use Rattle.kept_states.specs.Packed.{short_numbers, state_in, state_of_parts, with_numbers};
 ghost use Rattle.kept_states.specs.Words.{floor_in, is_live as is_live_shape};
 
 use crate::parts::{Numbers, Parts, Shape};
 use operation_defs::Op;
+use state_defs::State;
 
-/// A state whose numbers have 16 bits each, or a wide one, with a number that has more: its numbers stand elsewhere,
-/// and are 0 here.
+/// A usual state whose numbers have 16 bits each; or a wide one, which is any other: it stands elsewhere, and nothing here says
+/// what it is.
 #[derive(Clone, Copy)]
 pub(crate) struct Slot {
     shape: Shape,
@@ -69,12 +72,29 @@ fn floor(shape: Shape, home: i16) -> i16
     }
 }
 
+/// The slot of a wide state.
+const WIDE: Slot = Slot {
+    shape: Shape::Undefined,
+    is_wide: true,
+    depth: 0,
+    fp: 0,
+    home: 0,
+};
+
 impl Slot {
-    /// The slot of a state, by its parts.
-    pub(crate) fn new(parts: &Parts) -> Slot
-        ensures shape { result.shape ≡ parts.now.shape }
-        ensures wide { result.is_wide ≡ not (has_short_numbers parts.now.numbers) }
-        ensures numbers { result.is_wide ≡ false → short_numbers result ≡ parts.now.numbers }
+    /// The slot of a state.
+    pub(crate) fn new(state: State) -> Slot
+        ensures { result.is_wide ≡ false → with_numbers result.shape (short_numbers result) ≡ state }
+    {
+        match Parts::of(state) {
+            Some(parts) => Slot::of_parts(&parts),
+            None => WIDE,
+        }
+    }
+
+    /// The slot of a usual state, by its parts.
+    fn of_parts(parts: &Parts) -> Slot
+        ensures { result.is_wide ≡ false → with_numbers result.shape (short_numbers result) ≡ state_of_parts parts.now }
     {
         let Numbers { depth, fp, home } = parts.numbers;
         if has_16_bits(depth) && has_16_bits(fp) && has_16_bits(home) {
@@ -86,49 +106,39 @@ impl Slot {
                 home: home as i16,
             }
         } else {
-            Slot {
-                shape: parts.shape,
-                is_wide: true,
-                depth: 0,
-                fp: 0,
-                home: 0,
-            }
+            WIDE
         }
     }
 
-    /// Whether the numbers of the state stand elsewhere.
+    /// Whether the state stands elsewhere.
     pub(crate) fn is_wide(self) -> bool
         ensures wide { result ≡ self.is_wide }
-        ensures near { result ≡ false → (wide : NumbersValue) → has_near_numbers (state_in self wide) ≡ true }
+        ensures near { result ≡ false → (wide : StateValue) → has_near_numbers (state_in self wide) ≡ true }
+        ensures usual { result ≡ false → (wide : StateValue) → is_usual (state_in self wide) ≡ true }
     {
         self.is_wide
     }
 
-    /// The numbers here.
-    pub(crate) fn numbers(self) -> Numbers
-        ensures { result ≡ short_numbers self }
+    /// The state, where it isn't wide.
+    pub(crate) fn state(self) -> State
+        ensures { result ≡ with_numbers self.shape (short_numbers self) }
     {
-        Numbers {
-            depth: self.depth as i64,
-            fp: self.fp as i64,
-            home: self.home as i64,
-        }
-    }
-
-    /// The state, with these numbers.
-    pub(crate) fn with(self, numbers: Numbers) -> Parts
-        ensures { result ≡ record { shape = self.shape; numbers = numbers } }
-    {
-        Parts {
+        let parts = Parts {
             shape: self.shape,
-            numbers,
-        }
+            numbers: Numbers {
+                depth: self.depth as i64,
+                fp: self.fp as i64,
+                home: self.home as i64,
+            },
+        };
+        parts.state()
     }
 
-    /// Whether the numbers of the state have 16 bits, and so have the offsets of its row.
+    /// Whether the state is usual, its numbers have 16 bits, and so have the offsets of its row.
     pub(crate) fn is_short(self) -> bool
-        ensures near { IsTrue result → (wide : NumbersValue) → has_near_numbers (state_in self wide) ≡ true }
-        ensures fit { IsTrue result → (wide : NumbersValue) → unfit_offset (state_in self wide) ≡ None }
+        ensures usual { IsTrue result → (wide : StateValue) → is_usual (state_in self wide) ≡ true }
+        ensures near { IsTrue result → (wide : StateValue) → has_near_numbers (state_in self wide) ≡ true }
+        ensures fit { IsTrue result → (wide : StateValue) → unfit_offset (state_in self wide) ≡ None }
     {
         !self.is_wide && -32767 <= self.home
     }
@@ -136,7 +146,7 @@ impl Slot {
     /// A quick test whether two slots hold the same state, which isn't wide.
     #[inline(always)]
     pub(crate) fn is_alike(self, other: Slot) -> bool
-        ensures { IsTrue result → (wide other_wide : NumbersValue) → state_in self wide ≡ state_in other other_wide }
+        ensures { IsTrue result → (wide other_wide : StateValue) → state_in self wide ≡ state_in other other_wide }
     {
         !self.is_wide
             && (self.shape == other.shape)
@@ -148,7 +158,7 @@ impl Slot {
 
     /// The slot of a live state that isn't wide, after a push.
     fn pushed(self) -> Option<Slot>
-        ensures { IfSome result (λ slot. (wide other : NumbersValue) → (move (state_in self wide) Op.Push ≡ Ok (state_in slot other)) × (move (state_in self wide) Op.Hop ≡ Ok (state_in slot other))) }
+        ensures { IfSome result (λ slot. (wide other : StateValue) → (move (state_in self wide) Op.Push ≡ Ok (state_in slot other)) × (move (state_in self wide) Op.Hop ≡ Ok (state_in slot other)) × ((reg : DrapRegister) → move (state_in self wide) (Op.PushReg reg) ≡ Ok (state_in slot other))) }
     {
         if self.is_wide || !is_live(self.shape) || self.depth > i16::MAX - WORD {
             return None;
@@ -164,7 +174,7 @@ impl Slot {
 
     /// The slot of a live state that isn't wide, after a pop.
     fn popped(self) -> Option<Slot>
-        ensures { IfSome result (λ slot. (wide other : NumbersValue) → (move (state_in self wide) Op.Pop ≡ Ok (state_in slot other)) × (move (state_in self wide) Op.Popf ≡ Ok (state_in slot other))) }
+        ensures { IfSome result (λ slot. (wide other : StateValue) → (move (state_in self wide) Op.Pop ≡ Ok (state_in slot other)) × (move (state_in self wide) Op.Popf ≡ Ok (state_in slot other)) × ((reg : DrapRegister) → move (state_in self wide) (Op.PopReg reg) ≡ Ok (state_in slot other))) }
     {
         if self.is_wide || !is_live(self.shape) || self.depth < i16::MIN + WORD {
             return None;
@@ -184,7 +194,7 @@ impl Slot {
 
     /// The slot of a live state that isn't wide, after rsp is raised by a number, or lowered where that is negative.
     fn raised(self, by: i64) -> Option<Slot>
-        ensures { IfSome result (λ slot. (wide other : NumbersValue) → move (state_in self wide) (Op.AddSp by) ≡ Ok (state_in slot other)) }
+        ensures { IfSome result (λ slot. (wide other : StateValue) → move (state_in self wide) (Op.AddSp by) ≡ Ok (state_in slot other)) }
     {
         if self.is_wide || !is_live(self.shape) || !has_16_bits(by) {
             return None;
@@ -205,7 +215,7 @@ impl Slot {
     /// The slot of a state that isn't wide after rbp is pushed, where the depth is known, the caller's rbp isn't saved yet, and
     /// rbp is no frame pointer.
     fn with_bp(self) -> Option<Slot>
-        ensures { IfSome result (λ slot. (wide other : NumbersValue) → move (state_in self wide) Op.PushBp ≡ Ok (state_in slot other)) }
+        ensures { IfSome result (λ slot. (wide other : StateValue) → move (state_in self wide) Op.PushBp ≡ Ok (state_in slot other)) }
     {
         if self.is_wide || self.depth > i16::MAX - WORD {
             return None;
@@ -225,7 +235,7 @@ impl Slot {
 
     /// The slot of a state that isn't wide after rbp is popped, where the depth is known, and the caller's rbp is saved there.
     fn with_callers_bp(self) -> Option<Slot>
-        ensures { IfSome result (λ slot. (wide other : NumbersValue) → move (state_in self wide) Op.PopBp ≡ Ok (state_in slot other)) }
+        ensures { IfSome result (λ slot. (wide other : StateValue) → move (state_in self wide) Op.PopBp ≡ Ok (state_in slot other)) }
     {
         if self.is_wide || self.depth < i16::MIN + WORD {
             return None;
@@ -249,7 +259,7 @@ impl Slot {
     /// The slot of a state that isn't wide after rbp is lost, where that leaves it as it is: the depth and the place where the
     /// caller's rbp is saved are known, and rbp is no frame pointer.
     fn without_bp(self) -> Option<Slot>
-        ensures { IfSome result (λ slot. (wide other : NumbersValue) → move (state_in self wide) Op.BpOther ≡ Ok (state_in slot other)) }
+        ensures { IfSome result (λ slot. (wide other : StateValue) → move (state_in self wide) Op.BpOther ≡ Ok (state_in slot other)) }
     {
         match self.shape {
             Shape::KnownSaved if !self.is_wide => Some(self),
@@ -261,11 +271,11 @@ impl Slot {
     /// it isn't refused.
     #[inline(always)]
     pub(crate) fn quickly_moved(self, op: Op) -> Option<Slot>
-        ensures { IfSome result (λ slot. (wide other : NumbersValue) → move (state_in self wide) op ≡ Ok (state_in slot other)) }
+        ensures { IfSome result (λ slot. (wide other : StateValue) → move (state_in self wide) op ≡ Ok (state_in slot other)) }
     {
         match op {
-            Op::Push | Op::Hop => self.pushed(),
-            Op::Pop | Op::Popf => self.popped(),
+            Op::Push | Op::Hop | Op::PushReg { .. } => self.pushed(),
+            Op::Pop | Op::Popf | Op::PopReg { .. } => self.popped(),
             Op::BpOther => self.without_bp(),
             Op::AddSp { by } => self.raised(by),
             Op::PushBp => self.with_bp(),

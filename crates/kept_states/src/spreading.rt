@@ -15,6 +15,7 @@ ghost use Rattle.program_graph.specs.Tells.{Tells};
 ghost use Rattle.kept_states.specs.Batches.{AreFirst, InBatch, MetNoSettled};
 ghost use Rattle.kept_states.specs.Done.{HaveGivenAll};
 ghost use Rattle.kept_states.specs.LevelStates.{StaysSame, at};
+ghost use Rattle.kept_states.specs.Neutral.{is_usual};
 ghost use Rattle.kept_states.specs.Passages.{AreLinked, ArePassages};
 ghost use Rattle.kept_states.specs.Ranks.{AreSpread};
 ghost use Rattle.kept_states.specs.Told.{HaveGiven};
@@ -342,11 +343,12 @@ impl Kept {
         self.levels.is_kept(n)
     }
 
-    /// A quick test whether a point keeps a state whose numbers have 16 bits, and so have the offsets of its row. Where it says
+    /// A quick test whether a point keeps a usual state whose numbers have 16 bits, and so have the offsets of its row. Where it says
     /// so, a move that leaves the state as it is isn't refused, and the offsets fit the format.
     pub fn is_short(&self, n: u32) -> bool
         requires { n < length self.now }
         ensures some { IsTrue result → IsSome (at self.now n) }
+        ensures usual { IsTrue result → (s : State) → at self.now n ≡ Some s → is_usual s ≡ true }
         ensures near { IsTrue result → (s : State) → at self.now n ≡ Some s → has_near_numbers s ≡ true }
         ensures fit { IsTrue result → (s : State) → at self.now n ≡ Some s → unfit_offset s ≡ None }
     {

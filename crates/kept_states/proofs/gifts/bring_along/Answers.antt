@@ -6,7 +6,7 @@ use Rattle.state_defs.specs.declared.state.State.{State}
 use Rattle.machine_defs.specs.Kept.{moved, moved_at}
 use Rattle.kept_states.specs.declared.slot.Slot.{Slot}
 use Rattle.kept_states.specs.LevelStates.{at}
-use Rattle.kept_states.specs.Packed.{no_numbers, state_in}
+use Rattle.kept_states.specs.Packed.{no_state, state_in}
 use Rattle.kept_states.specs.Told.{Lasts, offer_all}
 use Rattle.kept_states.proofs.PassageLemmas.{brought_same}
 use Rattle.kept_states.proofs.Slots.{of_state}
@@ -14,7 +14,7 @@ use Rattle.kept_states.proofs.gifts.bring_along.Goals as goal
 
 pub returns-clause-next : goal.returns-clause-next
 returns-clause-next c p s t has =
-    let state : State = state_in c.in-Some.slot no_numbers in
+    let state : State = state_in c.in-Some.slot no_state in
     let lasts : Lasts p c.args.levels.now.kept c.args.from c.in-Some.slot = subst (λ (o : Option Slot). IfSome o (Lasts p c.args.levels.now.kept c.args.from)) c.in-Some.is (c.requires.lasting p t) in
     let same : s ≡ state = of_state (λ (u : State). u ≡ state) (at c.args.levels.now.kept c.args.from) state lasts.0 refl s has in
     let other : c.args.edge.kind ≢ Sibling = search rules in
