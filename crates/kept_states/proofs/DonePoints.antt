@@ -7,6 +7,7 @@ use Rattle.machine_defs.specs.declared.flow.Edge.{Edge}
 use Rattle.machine_defs.specs.declared.flow.EdgeKind.{EdgeKind}
 use Rattle.machine_defs.specs.declared.flow.EdgeKind.TheVariants.{Next, Taken, Fixup, Table, Sibling}
 use Rattle.state_defs.specs.declared.state.State.{State}
+use Rattle.state_defs.specs.State.{held_by}
 use Rattle.machine_defs.specs.Program.{Program, IsPoint}
 use Rattle.machine_defs.specs.Kept.{Brings, brought_along, edges_of, is_free, kept_or, moved, moved_at}
 use Rattle.unwinding_law.proofs.Lists.{cases, here, nowhere}
@@ -143,24 +144,24 @@ same_along s u after Table m c = one s u (subst (λ (r : Result State ℕ). Cont
 same_along s u after Sibling m c = nowhere u c
 
 -- a point with the same edges gives something to each point to which another brings something
-gives_too : (p : Program) (a first q : ℕ) (s t u : State) → edges_of p a ≡ edges_of p first → moved_at p first s ≡ Ok s → p.unchecked q ≡ false → is_free (p.hint q) ≡ true → Brings p a t q u → Gives p first s q s
+gives_too : (p : Program) (a first q : ℕ) (s t u : State) → edges_of p a ≡ edges_of p first → moved_at p first s ≡ Ok s → p.unchecked q ≡ false → is_free (p.hint q) ≡ true → Brings p a t q u → Gives p first s q (held_by (p.held q) s)
 gives_too p a first q s t u same moves checked free brings =
     let r = brings_edge p a q t u brings in
-    let e : Edge = r.0 in
-    let listed : Contains (edges_of p first) e = subst (λ (es : List Edge). Contains es e) same r.1 in
-    let along : Brings p first s e.to s = brings_along p first s e s listed (brings_same s t u (moved_at p a t) (moved_at p first s) e.kind moves r.3) in
-    (checked, inl (free, subst (λ (x : ℕ). Brings p first s x s) r.2 along))
+    let e : Edge = r.edge in
+    let listed : Contains (edges_of p first) e = subst (λ (es : List Edge). Contains es e) same r.among in
+    let along : Brings p first s e.to (held_by (p.held e.to) s) = brings_along p first s e s listed (brings_same s t r.moved (moved_at p a t) (moved_at p first s) e.kind moves r.along) in
+    (checked, inl (free, subst (λ (x : ℕ). Brings p first s x (held_by (p.held x) s)) r.to along))
 
 -- what a point brings is brought in vain where one with the same edges has given
 pub vain_after : (p : Program) (levels : LevelStates) (i a first : ℕ) (s : State) → HaveGivenAll p levels → Contains levels.done first → at levels.kept first ≡ Some s → moved_at p first s ≡ Ok s → edges_of p a ≡ edges_of p first → IsBroughtInVain p levels i a
-vain_after p levels i a first s given done has moves same q t u pq kept checked free brings = inl (given.aside first q s s done pq has (gives_too p a first q s t u same moves checked free brings))
+vain_after p levels i a first s given done has moves same q t u pq kept checked free brings = inl (given.aside first q s (held_by (p.held q) s) done pq has (gives_too p a first q s t u same moves checked free brings))
 
 -- and where one in front with the same state gave before
 pub vain_beside : (p : Program) (levels : LevelStates) (i a first : ℕ) → Contains (take i levels.front) first → at levels.kept first ≡ at levels.kept a → ((s : State) → at levels.kept a ≡ Some s → (moved_at p first s ≡ Ok s) × (moved_at p a s ≡ Ok s)) → edges_of p a ≡ edges_of p first → IsBroughtInVain p levels i a
 vain_beside p levels i a first before alike moves same q t u pq kept checked free brings =
     let m = moves t kept in
     let r = brings_edge p a q t u brings in
-    let e : u ≡ t = same_along t u (moved_at p a t) (r.0).kind m.1 r.3 in
+    let e : u ≡ held_by (p.held q) t = r.held ∙ ap (held_by (p.held q)) (same_along t r.moved (moved_at p a t) r.edge.kind m.1 r.along) in
     inr (first, t, before, alike ∙ kept, subst (λ (x : State). Gives p first t q x) (sym e) (gives_too p a first q t t u same m.0 checked free brings))
 
 is_settled_by : (a b : Offers) (q : ℕ) → b.settled ≡ a.settled → is_settled a q ≡ false → is_settled b q ≡ false

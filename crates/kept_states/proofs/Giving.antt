@@ -5,16 +5,17 @@ use Rattle.std.proofs.lemmas.List.Elements.{Contains-append_left, Contains-appen
 use Rattle.machine_defs.specs.declared.flow.Edge.{Edge}
 use Rattle.state_defs.specs.declared.state.State.{State}
 use Rattle.state_defs.specs.declared.state.HintState.TheVariants.{Restore}
+use Rattle.state_defs.specs.State.{held_by}
 use Rattle.machine_defs.specs.Program.{Program, IsPoint}
 use Rattle.machine_defs.specs.Kept.{Brings, brought_along, edges_of, is_free, moved_at}
-use Rattle.unwinding_law.proofs.Lists.{here, there, cases, nowhere}
-use Rattle.unwinding_law.proofs.KeptStates.{brings_along, brings_edge}
+use Rattle.unwinding_law.proofs.Lists.{here, there, cases, nowhere, in_map, from_map}
+use Rattle.unwinding_law.proofs.KeptStates.{IsBroughtBy, brings_along, brings_edge}
 use Rattle.program_graph.specs.Tells.{Means}
 use Rattle.kept_states.specs.Done.{IsBroughtInVain, IsLeftAside}
 use Rattle.kept_states.specs.Least.{IsLeast, lesser_of}
 use Rattle.kept_states.specs.LevelStates.{LevelStates, Offers, after_offer, at, is_settled, offered}
 use Rattle.kept_states.specs.Gives.{Gives, IsGiven}
-use Rattle.kept_states.specs.Told.{AreLeast, offer_all, given_along, given_to_restore}
+use Rattle.kept_states.specs.Told.{AreLeast, brought_held, offer_all, given_along, given_to_restore}
 use Rattle.kept_states.proofs.Least.{least_more, least_same}
 use Rattle.kept_states.proofs.LevelSteps.{not_none}
 use Rattle.kept_states.proofs.Places.{at_same, at_other, same_or_not}
@@ -135,36 +136,47 @@ module _ (kept : List (Option State)) (p : Program) (s : State) (A : ℕ → Sta
 
 -- what is given is what comes along the edges of the point and to the RESTOREs that mean it
 module _ (p : Program) (a : ℕ) (s : State) where
-  along : (e : Edge) (u : State) → Contains (given_along p s (moved_at p a s) e) u → (p.unchecked e.to ≡ false) × (is_free (p.hint e.to) ≡ true) × Contains (brought_along s (moved_at p a s) e.kind) u
+  along : (e : Edge) (u : State) → Contains (given_along p s (moved_at p a s) e) u → (p.unchecked e.to ≡ false) × (is_free (p.hint e.to) ≡ true) × Contains (brought_held p s (moved_at p a s) e) u
   along e u c = go (p.unchecked e.to) (is_free (p.hint e.to)) refl refl c
     where
-      go : (b f : Bool) → p.unchecked e.to ≡ b → is_free (p.hint e.to) ≡ f → Contains (if b then [] else (if f then brought_along s (moved_at p a s) e.kind else [])) u → (p.unchecked e.to ≡ false) × (is_free (p.hint e.to) ≡ true) × Contains (brought_along s (moved_at p a s) e.kind) u
+      go : (b f : Bool) → p.unchecked e.to ≡ b → is_free (p.hint e.to) ≡ f → Contains (if b then [] else (if f then brought_held p s (moved_at p a s) e else [])) u → (p.unchecked e.to ≡ false) × (is_free (p.hint e.to) ≡ true) × Contains (brought_held p s (moved_at p a s) e) u
       go true f x y c = nowhere u c
       go false true x y c = (x, y, c)
       go false false x y c = nowhere u c
 
-  to_restore : (r : ℕ) (u : State) → Contains (given_to_restore p s r) u → (p.unchecked r ≡ false) × (u ≡ s)
+  to_restore : (r : ℕ) (u : State) → Contains (given_to_restore p s r) u → (p.unchecked r ≡ false) × (u ≡ held_by (p.held r) s)
   to_restore r u c = go (p.unchecked r) refl c
     where
-      go : (b : Bool) → p.unchecked r ≡ b → Contains (if b then [] else s ∷ []) u → (p.unchecked r ≡ false) × (u ≡ s)
+      go : (b : Bool) → p.unchecked r ≡ b → Contains (if b then [] else held_by (p.held r) s ∷ []) u → (p.unchecked r ≡ false) × (u ≡ held_by (p.held r) s)
       go true x c = nowhere u c
-      go false x c = (x, elim (cases s [] u c) [ inl e ↦ sym e | inr n ↦ nowhere u n ])
+      go false x c = (x, elim (cases (held_by (p.held r) s) [] u c) [ inl e ↦ sym e | inr n ↦ nowhere u n ])
+
+  -- what is brought along an edge
+  brought : (e : Edge) (u : State) → Contains (edges_of p a) e → Contains (brought_held p s (moved_at p a s) e) u → Brings p a s e.to u
+  brought e u c k =
+      let m = from_map (held_by (p.held e.to)) (brought_along s (moved_at p a s) e.kind) u k in
+      subst (λ (x : State). Brings p a s e.to x) (sym m.2) (brings_along p a s e m.0 c m.1)
+
+  brought_back : (q : ℕ) (u : State) (r : IsBroughtBy p a q s u) → Contains (brought_held p s (moved_at p a s) r.edge) u
+  brought_back q u r =
+      let is : u ≡ held_by (p.held r.edge.to) r.moved = r.held ∙ ap (λ (x : ℕ). held_by (p.held x) r.moved) (sym r.to) in
+      subst (λ (x : State). Contains (brought_held p s (moved_at p a s) r.edge) x) (sym is) (in_map (held_by (p.held r.edge.to)) (brought_along s (moved_at p a s) r.edge.kind) r.moved r.along)
 
   pub gives_all : (restores : List ℕ) → ((r : ℕ) → Contains restores r ↔ Means p a r) → (q : ℕ) (u : State) → IsPoint p q → Gives p a s q u ↔ (FromEdges p s (moved_at p a s) (edges_of p a) q u ⊎ FromRestores p s restores q u)
   gives_all restores mean q u pq = (λ g. to g.0 g.1, λ k. from k)
     where
-      to : p.unchecked q ≡ false → ((is_free (p.hint q) ≡ true) × Brings p a s q u) ⊎ ((p.hint q ≡ Some Restore) × (p.save_of q ≡ Some a) × (u ≡ s)) → FromEdges p s (moved_at p a s) (edges_of p a) q u ⊎ FromRestores p s restores q u
+      to : p.unchecked q ≡ false → ((is_free (p.hint q) ≡ true) × Brings p a s q u) ⊎ ((p.hint q ≡ Some Restore) × (p.save_of q ≡ Some a) × (u ≡ held_by (p.held q) s)) → FromEdges p s (moved_at p a s) (edges_of p a) q u ⊎ FromRestores p s restores q u
       to checked (inl (free, brings)) =
           let r = brings_edge p a q s u brings in
           let back : (x : ℕ) → x ≡ q → p.unchecked x ≡ false = λ x e. subst (λ (y : ℕ). p.unchecked y ≡ false) (sym e) checked in
-          let too : is_free (p.hint (r.0).to) ≡ true = subst (λ (y : ℕ). is_free (p.hint y) ≡ true) (sym r.2) free in
-          inl (r.0, r.1, r.2, rw (back (r.0).to r.2, too) r.3)
-      to checked (inr (h, v, e)) = inr ((mean q).1 (record { point = pq; hint = h; save = v }), rw checked (subst (λ (x : State). Contains (s ∷ []) x) (sym e) (here s [])))
+          let too : is_free (p.hint r.edge.to) ≡ true = subst (λ (y : ℕ). is_free (p.hint y) ≡ true) (sym r.to) free in
+          inl (r.edge, r.among, r.to, rw (back r.edge.to r.to, too) (brought_back q u r))
+      to checked (inr (h, v, e)) = inr ((mean q).1 (record { point = pq; hint = h; save = v }), rw checked (subst (λ (x : State). Contains (held_by (p.held q) s ∷ []) x) (sym e) (here (held_by (p.held q) s) [])))
 
       from : FromEdges p s (moved_at p a s) (edges_of p a) q u ⊎ FromRestores p s restores q u → Gives p a s q u
       from (inl (e, c, t, g)) =
           let k = along e u g in
-          subst (λ (x : ℕ). Gives p a s x u) t (k.0, inl (k.1, brings_along p a s e u c k.2))
+          subst (λ (x : ℕ). Gives p a s x u) t (k.0, inl (k.1, brought e u c k.2))
       from (inr (c, g)) =
           let k = to_restore q u g in
           let m = (mean q).0 c in
@@ -178,7 +190,7 @@ module _ (p : Program) (old : LevelStates) (next : Offers) (i a : ℕ) (s : Stat
   aside : (q : ℕ) (u : State) → q < length old.kept → FromEdges p s (moved_at p a s) (edges_of p a) q u → IsLeftAside old q ⊎ So q u
   aside q u l (e, c, t, g) =
       let k = along p a s e u g in
-      vain q s u (omega (arith, l, count)) has (subst (λ (x : ℕ). p.unchecked x ≡ false) t k.0) (subst (λ (x : ℕ). is_free (p.hint x) ≡ true) t k.1) (subst (λ (x : ℕ). Brings p a s x u) t (brings_along p a s e u c k.2))
+      vain q s u (omega (arith, l, count)) has (subst (λ (x : ℕ). p.unchecked x ≡ false) t k.0) (subst (λ (x : ℕ). is_free (p.hint x) ≡ true) t k.1) (subst (λ (x : ℕ). Brings p a s x u) t (brought p a s e u c k.2))
 
   pub in_vain : next.settled ≡ old.next.settled → (next.met ≡ false → old.next.met ≡ false) → AreLeast old.kept next (WithEdges So p s (moved_at p a s) []) → AreLeast old.kept next (WithEdges So p s (moved_at p a s) (edges_of p a))
   in_vain settled met h = record { least = least; unmet = unmet }

@@ -1,8 +1,9 @@
 -- From one level to the next.
-use Rattle.std.proofs.Common.{◌≡◌, ℕ, suc, Bool, true, false, List, [], ◌∷◌, ◌⊎◌, inl, inr, Option, Some, None, IsSome, Contains, if◌then◌else◌, option_and_then, refl, ap, sym, ◌∙◌, subst, arith}
+use Rattle.std.proofs.Common.{◌≡◌, ℕ, suc, Bool, true, false, List, [], ◌∷◌, ◌⊎◌, inl, inr, Option, Some, None, IsSome, Contains, if◌then◌else◌, option_and_then, option_map, refl, ap, sym, ◌∙◌, subst, arith}
 use Rattle.state_defs.specs.declared.state.State.{State}
 use Rattle.state_defs.specs.declared.state.HintState.{HintState}
 use Rattle.state_defs.specs.declared.state.HintState.TheVariants.{Set, Save, Restore}
+use Rattle.state_defs.specs.State.{held_by}
 use Rattle.machine_defs.specs.Program.{Program, IsPoint, below}
 use Rattle.machine_defs.specs.IsProgram.{IsProgram}
 use Rattle.machine_defs.specs.Kept.{Brings, brought, brought_from, is_free, later_state, kept_or, state_at}
@@ -85,7 +86,7 @@ module _ (p : Program) (is : IsProgram p) (n : ℕ) (states : ℕ → Option Sta
   to_brought : (q : ℕ) (t : State) → is_free (p.hint q) ≡ true → IsGiven p states front q t → Contains (brought p (state_at p n) q) t
   to_brought q t free (a, s, c, kept, gives) = go gives.1
     where
-      go : ((is_free (p.hint q) ≡ true) × Brings p a s q t) ⊎ ((p.hint q ≡ Some Restore) × (p.save_of q ≡ Some a) × (t ≡ s)) → Contains (brought p (state_at p n) q) t
+      go : ((is_free (p.hint q) ≡ true) × Brings p a s q t) ⊎ ((p.hint q ≡ Some Restore) × (p.save_of q ≡ Some a) × (t ≡ held_by (p.held q) s)) → Contains (brought p (state_at p n) q) t
       go (inl (f, brings)) =
           let e : state_at p n a ≡ Some s = sym (level.same a (points a c)) ∙ kept in
           in_flat_map (λ x. brought_from p x (state_at p n x) q) (below p.count) a t (in_below p.count a (points a c)) (subst (λ (o : Option State). Contains (brought_from p a o q) t) (sym e) brings)
@@ -112,28 +113,29 @@ module _ (p : Program) (is : IsProgram p) (n : ℕ) (states : ℕ → Option Sta
       isnt a s t (u, inr (r, v, e)) = let k : Some (Set w) ≡ Some Restore = sym h ∙ r in cc
   by_hint q o pq none u lowest (Some Restore) h = saved (p.save_of q) refl
     where
-      bound : (a : ℕ) (s t : State) → Gives p a s q t → (p.save_of q ≡ Some a) × (t ≡ s)
+      bound : (a : ℕ) (s t : State) → Gives p a s q t → (p.save_of q ≡ Some a) × (t ≡ held_by (p.held q) s)
       bound a s t (u, inl (f, b)) = let k : is_free (Some Restore) ≡ true = subst (λ (x : Option HintState). is_free x ≡ true) h f in absurd (let z : ⊥ = cc in z)
       bound a s t (u, inr (r, v, e)) = (v, e)
 
-      of_save : (r : ℕ) → p.save_of q ≡ Some r → (w : Option State) → states r ≡ w → o ≡ w
+      of_save : (r : ℕ) → p.save_of q ≡ Some r → (w : Option State) → states r ≡ w → o ≡ option_map (held_by (p.held q)) w
       of_save r v None e = none_given q (λ a s t c kept g. let b = bound a s t g in let k : r ≡ a = cc in let z : states a ≡ None = subst (λ (x : ℕ). states x ≡ None) k e in cc) o lowest
       of_save r v (Some w) e =
           let pr : IsPoint p r = is.saves q r pq v in
-          let gives : Gives p r w q w = (u, inr (h, v, refl)) in
-          let c : Contains front r = in_front r q w w pr pq none e gives in
-          let given : IsGiven p states front q w = (r, w, c, e, gives) in
-          least_is_one (IsGiven p states front q) o (Some w) lowest (least_one (IsGiven p states front q) w given (λ t g. only t g))
+          let kept : State = held_by (p.held q) w in
+          let gives : Gives p r w q kept = (u, inr (h, v, refl)) in
+          let c : Contains front r = in_front r q w kept pr pq none e gives in
+          let given : IsGiven p states front q kept = (r, w, c, e, gives) in
+          least_is_one (IsGiven p states front q) o (Some kept) lowest (least_one (IsGiven p states front q) kept given (λ t g. only t g))
         where
-          only : (t : State) → IsGiven p states front q t → t ≡ w
+          only : (t : State) → IsGiven p states front q t → t ≡ held_by (p.held q) w
           only t (a, s, c, kept, g) =
               let b = bound a s t g in
               let k : r ≡ a = cc in
               let z : states a ≡ Some w = subst (λ (x : ℕ). states x ≡ Some w) k e in
               let y : s ≡ w = cc in
-              b.1 ∙ y
+              b.1 ∙ ap (held_by (p.held q)) y
 
-      saved : (v : Option ℕ) → p.save_of q ≡ v → o ≡ option_and_then (state_at p n) v
+      saved : (v : Option ℕ) → p.save_of q ≡ v → o ≡ option_map (held_by (p.held q)) (option_and_then (state_at p n) v)
       saved None v = none_given q (λ a s t c kept g. let b = bound a s t g in cc) o lowest
       saved (Some r) v = of_save r v (state_at p n r) (level.same r (is.saves q r pq v))
 

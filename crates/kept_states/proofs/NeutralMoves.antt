@@ -1,6 +1,6 @@
 -- A neutral operation leaves each usual state as it is whose numbers are near.
 use Rattle.machine_defs.specs.Program.{Program}
-use Rattle.std.proofs.Common.{◌≡◌, Bool, true, Option, Some, None, [], ◌∷◌, Ok, refl, Result, subst, sym, ap, false, ℕ}
+use Rattle.std.proofs.Common.{◌≡◌, Bool, true, ◌&&◌, not, Option, Some, None, [], ◌∷◌, Ok, refl, Result, subst, sym, ap, false, ℕ}
 use Rattle.std.specs.Prelude.{ℤ}
 use Rattle.operation_defs.specs.declared.op.Op.{Op}
 use Rattle.operation_defs.specs.declared.op.Op.TheVariants.{Push, PushReg, PushBp, Pop, PopReg, PopBp, PopSp, Popf, AddSp, AndSp, AndDrap, LeaSpBp, LeaBpSp, LeaBpRoom, LeaSpReg, Keep, SubSp, SpReg, BackSp, CellSp, StoreBp, StoreThrough, LoadBp, Leave, SpOther, BpOther, Hop, IretNext}
@@ -8,6 +8,7 @@ use Rattle.state_defs.specs.declared.state.Depth.{Depth}
 use Rattle.state_defs.specs.declared.state.BpHome.{BpHome}
 use Rattle.state_defs.specs.declared.state.State.{State}
 use Rattle.state_defs.specs.declared.state.State.TheVariants.{Live, Ended, Regs, Poised, Switched, Drap}
+use Rattle.state_defs.specs.Rules.{is_poised}
 use Rattle.state_defs.specs.Move.{has_near_numbers, move, move_live, move_regs, to, with_copy}
 use Rattle.machine_defs.specs.Kept.{moved, moved_at, loosened}
 use Rattle.kept_states.specs.Neutral.{is_neutral, is_usual}
@@ -95,7 +96,7 @@ loosened_ok false r s e = e
 loosened_ok true r s e = subst (λ (x : Result State ℕ). loosened true x ≡ Ok s) (sym e) refl
 
 pub moved_at_ok : (p : Program) (q : ℕ) (s t : State) → move s (p.insn q).op ≡ Ok t → moved_at p q s ≡ Ok t
-moved_at_ok p q s t e = loosened_ok (p.loose q) (move s (p.insn q).op) t e
+moved_at_ok p q s t e = loosened_ok (p.loose q && not (is_poised s)) (move s (p.insn q).op) t e
 
 pub stays_at : (p : Program) (q : ℕ) (s : State) → is_neutral (p.insn q).op ≡ true → is_usual s ≡ true → has_near_numbers s ≡ true → moved_at p q s ≡ Ok s
 stays_at p q s h usual e = moved_at_ok p q s s (move_stays s (p.insn q).op h usual e)

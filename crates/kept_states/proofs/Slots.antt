@@ -1,6 +1,9 @@
 -- The states in some slots.
-use Rattle.std.proofs.Common.{◌≡◌, ◌≢◌, ℕ, zero, suc, ◌<◌, Bool, true, false, List, [], ◌∷◌, ◌++◌, Option, Some, length, get_or, set, slice_get, refl, ap, sym, ◌∙◌, subst, arith, get_or-set_same, get_or-set_other}
+use Rattle.std.proofs.Common.{◌≡◌, ◌≢◌, ℕ, zero, suc, ◌<◌, Bool, true, false, List, [], ◌∷◌, ◌++◌, Option, Some, None, length, get_or, set, slice_get, refl, ap, sym, ◌∙◌, subst, arith, get_or-set_same, get_or-set_other}
 use Rattle.state_defs.specs.declared.state.State.{State}
+use Rattle.state_defs.specs.declared.state.State.TheVariants.{Live, Ended, Poised, Switched, Drap}
+use Rattle.state_defs.specs.declared.state.State.TheVariants as states
+use Rattle.state_defs.specs.State.{held_by}
 use Rattle.kept_states.specs.declared.parts.Numbers.{Numbers}
 use Rattle.kept_states.specs.declared.parts.Shape.{Shape}
 use Rattle.kept_states.specs.declared.parts.Shape.TheVariants.{Known, KnownSaved, KnownFramed, KnownFramedSaved, AtLeast, AtLeastSaved, AtLeastFramed, AtLeastFramedSaved, Undefined, EndOfStack, Regs, FullRegs}
@@ -90,6 +93,26 @@ shape_is_usual FullRegs n = refl
 
 pub slot_is_usual : (s : Slot) (wide : State) → s.is_wide ≡ false → is_usual (state_in s wide) ≡ true
 slot_is_usual s wide short = rw short (shape_is_usual s.shape (short_numbers s))
+
+-- a usual state has no copy of rsp
+usual_held : (held : ℕ → Bool) (s : State) → is_usual s ≡ true → held_by held s ≡ s
+usual_held held (Live depth fp bp None) h = refl
+usual_held held (Live depth fp bp (Some copy)) h = absurd (let z : ⊥ = cc in z)
+usual_held held (Ended kind) h = refl
+usual_held held (states.Regs full depth trap) h = refl
+usual_held held (Poised depth fp bp) h = refl
+usual_held held (Switched depth bp fp) h = refl
+usual_held held (Drap reg phase) h = refl
+
+pub slot_held : (held : ℕ → Bool) (s : Slot) (wide : State) → s.is_wide ≡ false → held_by held (state_in s wide) ≡ state_in s wide
+slot_held held s wide short = usual_held held (state_in s wide) (slot_is_usual s wide short)
+
+pub lone_held : (held : ℕ → Bool) (s : Slot) → held_by held (state_in s no_state) ≡ state_in s no_state
+lone_held held s = either s.is_wide refl
+  where
+    either : (b : Bool) → s.is_wide ≡ b → held_by held (state_in s no_state) ≡ state_in s no_state
+    either true wide = rw wide refl
+    either false short = slot_held held s no_state short
 
 -- what is so of the state at a place
 pub of_state : (P : State → Type 0) (o : Option State) (t : State) → o ≡ Some t → P t → (s : State) → o ≡ Some s → P s

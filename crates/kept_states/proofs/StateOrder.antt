@@ -109,32 +109,36 @@ state_from (v ∷ n ∷ c ∷ o ∷ b ∷ m ∷ []) = Switched n (home_from c o)
 state_from (v ∷ r ∷ k ∷ s ∷ h ∷ []) = Drap (drap_from r) (Homed s h)
 state_from _ = Ended Undefined
 
+copied_from-key : (depth : Depth) (fp : Option ℤ) (home : BpHome) (reg : ℕ) (d : Depth) → state_from (state_key (Live depth fp home (Some (record { reg = reg; depth = d })))) ≡ Live depth fp home (Some (record { reg = reg; depth = d }))
+unfolding state_from depth_from fp_from home_from reg_from
+copied_from-key (Known n) None Same reg (Known k) = refl
+copied_from-key (Known n) None Same reg (AtLeast k) = refl
+copied_from-key (Known n) None (Saved o) reg (Known k) = refl
+copied_from-key (Known n) None (Saved o) reg (AtLeast k) = refl
+copied_from-key (Known n) (Some m) Same reg (Known k) = refl
+copied_from-key (Known n) (Some m) Same reg (AtLeast k) = refl
+copied_from-key (Known n) (Some m) (Saved o) reg (Known k) = refl
+copied_from-key (Known n) (Some m) (Saved o) reg (AtLeast k) = refl
+copied_from-key (AtLeast n) None Same reg (Known k) = refl
+copied_from-key (AtLeast n) None Same reg (AtLeast k) = refl
+copied_from-key (AtLeast n) None (Saved o) reg (Known k) = refl
+copied_from-key (AtLeast n) None (Saved o) reg (AtLeast k) = refl
+copied_from-key (AtLeast n) (Some m) Same reg (Known k) = refl
+copied_from-key (AtLeast n) (Some m) Same reg (AtLeast k) = refl
+copied_from-key (AtLeast n) (Some m) (Saved o) reg (Known k) = refl
+copied_from-key (AtLeast n) (Some m) (Saved o) reg (AtLeast k) = refl
+
 state_from-key : (s : State) → state_from (state_key s) ≡ s
 unfolding state_from depth_from fp_from home_from end_from reg_from drap_from phase_from
+state_from-key (Live depth fp home (Some copy)) = copied_from-key depth fp home copy.reg copy.depth
 state_from-key (Live (Known n) None Same None) = refl
-state_from-key (Live (Known n) None Same (Some (record { reg = r; depth = Known k }))) = refl
-state_from-key (Live (Known n) None Same (Some (record { reg = r; depth = AtLeast k }))) = refl
 state_from-key (Live (Known n) None (Saved o) None) = refl
-state_from-key (Live (Known n) None (Saved o) (Some (record { reg = r; depth = Known k }))) = refl
-state_from-key (Live (Known n) None (Saved o) (Some (record { reg = r; depth = AtLeast k }))) = refl
 state_from-key (Live (Known n) (Some m) Same None) = refl
-state_from-key (Live (Known n) (Some m) Same (Some (record { reg = r; depth = Known k }))) = refl
-state_from-key (Live (Known n) (Some m) Same (Some (record { reg = r; depth = AtLeast k }))) = refl
 state_from-key (Live (Known n) (Some m) (Saved o) None) = refl
-state_from-key (Live (Known n) (Some m) (Saved o) (Some (record { reg = r; depth = Known k }))) = refl
-state_from-key (Live (Known n) (Some m) (Saved o) (Some (record { reg = r; depth = AtLeast k }))) = refl
 state_from-key (Live (AtLeast n) None Same None) = refl
-state_from-key (Live (AtLeast n) None Same (Some (record { reg = r; depth = Known k }))) = refl
-state_from-key (Live (AtLeast n) None Same (Some (record { reg = r; depth = AtLeast k }))) = refl
 state_from-key (Live (AtLeast n) None (Saved o) None) = refl
-state_from-key (Live (AtLeast n) None (Saved o) (Some (record { reg = r; depth = Known k }))) = refl
-state_from-key (Live (AtLeast n) None (Saved o) (Some (record { reg = r; depth = AtLeast k }))) = refl
 state_from-key (Live (AtLeast n) (Some m) Same None) = refl
-state_from-key (Live (AtLeast n) (Some m) Same (Some (record { reg = r; depth = Known k }))) = refl
-state_from-key (Live (AtLeast n) (Some m) Same (Some (record { reg = r; depth = AtLeast k }))) = refl
 state_from-key (Live (AtLeast n) (Some m) (Saved o) None) = refl
-state_from-key (Live (AtLeast n) (Some m) (Saved o) (Some (record { reg = r; depth = Known k }))) = refl
-state_from-key (Live (AtLeast n) (Some m) (Saved o) (Some (record { reg = r; depth = AtLeast k }))) = refl
 state_from-key (Ended Undefined) = refl
 state_from-key (Ended EndOfStack) = refl
 state_from-key (Regs true n true) = refl

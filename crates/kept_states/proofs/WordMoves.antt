@@ -183,11 +183,14 @@ over_floor depth floor shape home fits is e =
     let same : to_z w16 (of_z w16 floor) ≡ floor_in shape home = ap (λ (m : ℤ). to_z w16 (of_z w16 m)) is ∙ to_z-of_z w16 (floor_in shape home) (floor_fits shape home fits) in
     subst (λ (m : ℤ). int_lt depth m ≡ false) same e
 
--- where either of two operations moves the state so, one of them does
-pub one_of : (s : Slot) (found : Option Slot) (op one other : Op) → (op ≡ one) ⊎ (op ≡ other) → IfSome found (λ slot. (w o : State) → (move (state_in s w) one ≡ Ok (state_in slot o)) × (move (state_in s w) other ≡ Ok (state_in slot o))) → IfSome found (λ slot. (w o : State) → move (state_in s w) op ≡ Ok (state_in slot o))
-one_of s None op one other which h = tt
-one_of s (Some slot) op one other (inl is) h = λ w o. subst (λ (x : Op). move (state_in s w) x ≡ Ok (state_in slot o)) (sym is) (h w o).0
-one_of s (Some slot) op one other (inr is) h = λ w o. subst (λ (x : Op). move (state_in s w) x ≡ Ok (state_in slot o)) (sym is) (h w o).1
+-- where each of some operations moves the state so, one of them does
+pub one_of : (s : Slot) (found : Option Slot) (op one other : Op) (third : DrapRegister → Op) → (op ≡ one) ⊎ ((op ≡ other) ⊎ ((reg : DrapRegister) × (op ≡ third reg)))
+    → IfSome found (λ slot. (w o : State) → (move (state_in s w) one ≡ Ok (state_in slot o)) × (move (state_in s w) other ≡ Ok (state_in slot o)) × ((reg : DrapRegister) → move (state_in s w) (third reg) ≡ Ok (state_in slot o)))
+    → IfSome found (λ slot. (w o : State) → move (state_in s w) op ≡ Ok (state_in slot o))
+one_of s None op one other third which h = tt
+one_of s (Some slot) op one other third (inl is) h = λ w o. subst (λ (x : Op). move (state_in s w) x ≡ Ok (state_in slot o)) (sym is) (h w o).0
+one_of s (Some slot) op one other third (inr (inl is)) h = λ w o. subst (λ (x : Op). move (state_in s w) x ≡ Ok (state_in slot o)) (sym is) (h w o).1
+one_of s (Some slot) op one other third (inr (inr (reg, is))) h = λ w o. subst (λ (x : Op). move (state_in s w) x ≡ Ok (state_in slot o)) (sym is) ((h w o).2 reg)
 
 -- where an operation moves the state so
 pub just_one : (s : Slot) (found : Option Slot) (op one : Op) → op ≡ one → IfSome found (λ slot. (w o : State) → move (state_in s w) one ≡ Ok (state_in slot o)) → IfSome found (λ slot. (w o : State) → move (state_in s w) op ≡ Ok (state_in slot o))

@@ -1,5 +1,5 @@
 -- The states of packed forms.
-use Rattle.std.specs.Prelude.{Bool, ◌&&◌, ℕ, List, [], ◌∷◌, Some, None, pos, slice_index_or, true, false, suc, if◌then◌else◌}
+use Rattle.std.specs.Prelude.{Bool, ◌&&◌, ℕ, List, [], ◌∷◌, Some, None, slice_index_or, true, false, suc, if◌then◌else◌}
 use Rattle.state_defs.specs.declared.state.State.{State}
 use Rattle.state_defs.specs.Row.{has_16_bits}
 use Rattle.state_defs.specs.declared.state.State.TheVariants.{Live, Ended}

@@ -1,6 +1,7 @@
 //! Moves of states at points.
 
-ghost use Rattle.std.specs.Prelude.{◌≡◌, ◌<◌, length, option_map, option_to_list};
+ghost use Rattle.std.specs.Prelude.{◌≡◌, ◌<◌, ◌&&◌, not, length, option_map, option_to_list};
+ghost use Rattle.state_defs.specs.Rules.{is_poised as is_poised_state};
 ghost use Rattle.machine_defs.specs.Program.{Program};
 ghost use Rattle.machine_defs.specs.Kept.{loses_stack as is_loss, moved as moved_by, moved_at};
 ghost use Rattle.program_graph.specs.Tells.{Tells};
@@ -22,6 +23,21 @@ fn loses_stack(rule: u8) -> bool
         || rule == SAVED_SLOT_DROPPED
 }
 
+/// Whether rsp was saved at a cell right before.
+fn is_poised(state: State) -> bool
+    ensures { result ≡ is_poised_state state }
+{
+    matches!(state, State::Poised { .. })
+}
+
+/// Whether the code of a point is loose, and a move of a state that this rule refuses there has lost rsp or rbp.
+fn is_lost(graph: &Graph, n: u32, state: State, rule: u8) -> bool
+    requires { n < length graph.now.parts.points.items }
+    ensures { (p : Program) → Tells p graph.now.parts → result ≡ (is_loss rule && (p.loose n && not (is_poised_state state))) }
+{
+    loses_stack(rule) && graph.loose(n) && !is_poised(state)
+}
+
 /// The state after the instruction of a point, or the rule that refuses it. Where loose code loses rsp or rbp, the stack has
 /// ended, and no rule refuses it.
 pub fn step_at(graph: &Graph, n: u32, state: State) -> Result<State, u8>
@@ -31,7 +47,7 @@ pub fn step_at(graph: &Graph, n: u32, state: State) -> Result<State, u8>
     match step(state, graph.op(n)) {
         Ok(after) => Ok(after),
         Err(rule) => {
-            if loses_stack(rule) && graph.loose(n) {
+            if is_lost(graph, n, state, rule) {
                 Ok(State::Ended(EndKind::Undefined))
             } else {
                 Err(rule)

@@ -131,18 +131,14 @@ fn phase_before(one: Phase, other: Phase) -> bool
                 home: other_home,
             },
         ) => number_before(size, other, home < other_home),
-        (
-            Phase::Bare { .. },
-            Phase::Pushed { .. } | Phase::Framed { .. } | Phase::Homed { .. },
-        ) => true,
+        (Phase::Bare { .. }, Phase::Pushed { .. } | Phase::Framed { .. } | Phase::Homed { .. }) =>
+            true,
         (Phase::Pushed { .. }, Phase::Framed { .. } | Phase::Homed { .. }) => true,
         (Phase::Framed { .. }, Phase::Homed { .. }) => true,
         (Phase::Pushed { .. }, Phase::Bare { .. }) => false,
         (Phase::Framed { .. }, Phase::Bare { .. } | Phase::Pushed { .. }) => false,
-        (
-            Phase::Homed { .. },
-            Phase::Bare { .. } | Phase::Pushed { .. } | Phase::Framed { .. },
-        ) => false,
+        (Phase::Homed { .. }, Phase::Bare { .. } | Phase::Pushed { .. } | Phase::Framed { .. }) =>
+            false,
     }
 }
 
@@ -261,15 +257,10 @@ pub(crate) fn is_before(one: State, other: State) -> bool
         ) => true,
         (
             State::Ended(_),
-            State::Regs { .. }
-            | State::Poised { .. }
-            | State::Switched { .. }
-            | State::Drap { .. },
+            State::Regs { .. } | State::Poised { .. } | State::Switched { .. } | State::Drap { .. },
         ) => true,
-        (
-            State::Regs { .. },
-            State::Poised { .. } | State::Switched { .. } | State::Drap { .. },
-        ) => true,
+        (State::Regs { .. }, State::Poised { .. } | State::Switched { .. } | State::Drap { .. }) =>
+            true,
         (State::Poised { .. }, State::Switched { .. } | State::Drap { .. }) => true,
         (State::Switched { .. }, State::Drap { .. }) => true,
         (State::Ended(_), State::Live { .. }) => false,

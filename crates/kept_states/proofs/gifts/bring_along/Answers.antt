@@ -1,15 +1,16 @@
 -- The state in the slot is the one that is kept, and is what its move is.
-use Rattle.std.proofs.Common.{◌≡◌, ◌≢◌, [], ◌∷◌, List, Option, refl, ap, sym, ◌∙◌, subst, rules}
+use Rattle.std.proofs.Common.{◌≡◌, ◌≢◌, [], ◌∷◌, List, Option, map, refl, ap, sym, ◌∙◌, subst, rules}
 use Rattle.std.specs.Prelude.{IfSome}
 use Rattle.machine_defs.specs.declared.flow.EdgeKind.TheVariants.{Sibling}
 use Rattle.state_defs.specs.declared.state.State.{State}
+use Rattle.state_defs.specs.State.{held_by}
 use Rattle.machine_defs.specs.Kept.{moved, moved_at}
 use Rattle.kept_states.specs.declared.slot.Slot.{Slot}
 use Rattle.kept_states.specs.LevelStates.{at}
 use Rattle.kept_states.specs.Packed.{no_state, state_in}
 use Rattle.kept_states.specs.Told.{Lasts, offer_all}
 use Rattle.kept_states.proofs.PassageLemmas.{brought_same}
-use Rattle.kept_states.proofs.Slots.{of_state}
+use Rattle.kept_states.proofs.Slots.{lone_held, of_state}
 use Rattle.kept_states.proofs.gifts.bring_along.Goals as goal
 
 pub returns-clause-next : goal.returns-clause-next
@@ -19,4 +20,5 @@ returns-clause-next c p s t has =
     let same : s ≡ state = of_state (λ (u : State). u ≡ state) (at c.args.levels.now.kept c.args.from) state lasts.0 refl s has in
     let other : c.args.edge.kind ≢ Sibling = search rules in
     c.offer.ensures.next ∙ ap (λ (gifts : List State). offer_all c.args.levels.now.kept c.args.levels.now.next c.args.edge.to gifts)
-    (sym (brought_same s state (moved_at p c.args.from s) c.args.edge.kind other (subst (λ (u : State). moved (moved_at p c.args.from u) ≡ state ∷ []) (sym same) lasts.1) same))
+    (sym (ap (map (held_by (p.held c.args.edge.to))) (brought_same s state (moved_at p c.args.from s) c.args.edge.kind other (subst (λ (u : State). moved (moved_at p c.args.from u) ≡ state ∷ []) (sym same) lasts.1) same)
+    ∙ ap (λ (u : State). u ∷ []) (lone_held (p.held c.args.edge.to) c.in-Some.slot)))

@@ -18,5 +18,5 @@ returns-then-not-is_wide c p passages =
     let state = c.front_slot-slot.ensures in
     let same : state_in slot state.0 ≡ state_in slot no_state = rw narrow refl in (
       ap (at c.args.levels.now.kept) c.requires.from ∙ (state.1 ∙ ap Some same),
-      moved_stays p c.args.from (state_in slot no_state) (and_parts _ _ both).1 (c.is_wide.ensures.near c.if-not-is_wide.true no_state),
+      moved_stays p c.args.from (state_in slot no_state) (and_parts _ _ both).1 (c.is_wide.ensures.usual c.if-not-is_wide.true no_state) (c.is_wide.ensures.near c.if-not-is_wide.true no_state),
     )

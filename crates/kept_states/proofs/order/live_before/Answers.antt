@@ -12,4 +12,4 @@ returns c =
     let fp : List ℤ = c.fp_part.result.variant ∷ c.fp_part.result.number ∷ home in
     let other_fp : List ℤ = c.fp_part-2.result.variant ∷ c.fp_part-2.result.number ∷ other_home in
     rw (c.depth_part.ensures, c.depth_part-2.ensures, c.fp_part.ensures, c.fp_part-2.ensures, c.home_part.ensures, c.home_part-2.ensures)
-    (c.part_before.ensures fp other_fp (c.part_before-fp.ensures home other_home (c.part_before-home.ensures copy other_copy c.copy_before.ensures)))
+    (c.part_before.ensures fp other_fp (c.part_before-fp.ensures home other_home (c.part_before-home.ensures copy other_copy c.copy_before-copy.ensures)))

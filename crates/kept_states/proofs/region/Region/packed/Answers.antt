@@ -12,7 +12,7 @@ pub returns-then-is_wide : goal.returns-then-is_wide
 returns-then-is_wide c =
     let at : slice_get c.args.self.now.list c.args.place ≡ Some (state_in c.index-slot.result.now (wide_at c.self.inside.wide.items c.args.place)) =
     state_at c.args.self.now c.self.inside.slots.items (wide_at c.self.inside.wide.items) (vec_capacity c.self.inside.slots) c.self.view_is c.args.place c.index-slot.result.now c.requires c.index-slot.ensures in
-    rw c.wide_numbers.ensures at
+    rw c.wide_state.ensures at
 
 pub returns-else-is_wide : goal.returns-else-is_wide
 returns-else-is_wide c =
