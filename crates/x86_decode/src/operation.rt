@@ -1,5 +1,6 @@
 ghost use Rattle.std.specs.Prelude.{◌≡◌, ◌↔◌, Some, unwrap_or};
 ghost use Rattle.operation_defs.specs.declared.op.DrapRegister.TheVariants.{R10, R13};
+ghost use Rattle.x86_decode.specs.Fields.{named_written};
 ghost use Rattle.x86_decode.specs.Operation.{
   written,
   written_besides,
@@ -25,33 +26,36 @@ ghost use Rattle.x86_decode.specs.Operation.{
 
 use crate::action::{Action, action_at};
 use crate::fields::Fields;
-use crate::writes::{has_register, named_written, registers_written};
+use crate::writes::{has_register, registers_written};
 use operation_defs::{DrapRegister, Op};
 
-/// What an instruction does.
+/// What an instruction does that writes these of the registers that it names.
 #[inline(never)]
-pub(crate) fn operation_of(f: &Fields) -> Op
+pub(crate) fn operation_of(f: &Fields, named: u16) -> Op
+    requires { named ≡ named_written f.now }
     ensures { result ≡ operation f.now }
 {
-    inline_operation_of(f)
+    inline_operation_of(f, named)
 }
 
 /// The same, without a call.
 #[tactic(auto, unfolding(crate::specs::Operation::operation))]
 #[inline(always)]
-pub(crate) fn inline_operation_of(f: &Fields) -> Op
+pub(crate) fn inline_operation_of(f: &Fields, named: u16) -> Op
+    requires { named ≡ named_written f.now }
     ensures { result ≡ operation f.now }
 {
-    operation_by(action_at(f.number, f.opcode), f)
+    operation_by(action_at(f.number, f.opcode), f, named)
 }
 
 #[inline(always)]
-fn operation_by(action: Action, f: &Fields) -> Op
+fn operation_by(action: Action, f: &Fields, named: u16) -> Op
+    requires { named ≡ named_written f.now }
     ensures { result ≡ operation_by action f.now }
 {
     match own_operation(action, f) {
         Some(op) => op,
-        None => written(f),
+        None => written(f, named),
     }
 }
 
@@ -114,16 +118,16 @@ fn own_operation(action: Action, f: &Fields) -> Option<Op>
 }
 
 #[inline(always)]
-fn written(f: &Fields) -> Op
+fn written(f: &Fields, named: u16) -> Op
+    requires { named ≡ named_written f.now }
     ensures { result ≡ written f.now }
 {
-    let named = named_written(f);
     if has_register(named, 4) {
         Op::SpOther
     } else if has_register(named, 5) {
         Op::BpOther
     } else {
-        written_besides(registers_written(f))
+        written_besides(registers_written(f, named))
     }
 }
 

@@ -31,7 +31,7 @@ ghost use Rattle.x86_decode.specs.Reading.{
 use crate::fields::{Fields, signed_number};
 use crate::operation::operation_of;
 use crate::prefix::{no_prefixes, noted};
-use crate::writes::registers_written;
+use crate::writes::{named_written, registers_written};
 use operation_defs::Insn;
 use x86_map::{
     Look, Map, Prefixes, Shape, Vector, accepts_some, evex_number, is_evex_second, lookup,
@@ -370,10 +370,11 @@ fn finished(
         displacement,
         immediate,
     );
+    let named = named_written(&f);
     Insn {
         len: f.displacement_at + displacement.len() as u8 + immediate.len() as u8,
-        op: operation_of(&f),
-        writes: registers_written(&f),
+        op: operation_of(&f, named),
+        writes: registers_written(&f, named),
     }
 }
 

@@ -28,7 +28,7 @@ use crate::fields::signed_number;
 use crate::operation::inline_operation_of;
 use crate::prefix::no_prefixes;
 use crate::reading::{count, displacement_len, fields_of, has_sib};
-use crate::writes::registers_written;
+use crate::writes::{named_written, registers_written};
 use operation_defs::{Insn, Op};
 use x86_map::{Look, Map, Prefixes, Shape, Write, Written, lookup};
 
@@ -425,9 +425,10 @@ fn read_usual_rest(
         displacement,
         immediate,
     );
+    let named = named_written(&f);
     Some(Insn {
         len: f.displacement_at + displacement.len() as u8 + immediate.len() as u8,
-        op: inline_operation_of(&f),
-        writes: registers_written(&f),
+        op: inline_operation_of(&f, named),
+        writes: registers_written(&f, named),
     })
 }

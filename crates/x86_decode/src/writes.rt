@@ -15,16 +15,17 @@ ghost use Rattle.x86_decode.specs.Fields.{
 use crate::fields::Fields;
 use x86_map::Write;
 
-/// The registers that an instruction writes.
+/// The registers that an instruction writes, of which it names these.
 #[tactic(auto, unfolding(crate::specs::Fields::registers_written))]
 #[inline(always)]
-pub(crate) fn registers_written(f: &Fields) -> u16
+pub(crate) fn registers_written(f: &Fields, named: u16) -> u16
+    requires { named ≡ named_written f.now }
     ensures { result ≡ registers_written f.now }
 {
-    named_written(f) | f.shape.written.implied
+    named | f.shape.written.implied
 }
 
-/// Those of them that ModRM, the opcode or VEX names.
+/// The registers that an instruction writes, of those that ModRM, the opcode or VEX names.
 #[tactic(auto, unfolding(crate::specs::Fields::named_written))]
 #[inline(always)]
 pub(crate) fn named_written(f: &Fields) -> u16
