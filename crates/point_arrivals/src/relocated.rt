@@ -22,6 +22,9 @@ fn has_stack_offset(op: Op) -> bool
         | Op::LeaSpBp { .. }
         | Op::LeaBpSp { .. }
         | Op::LeaBpRoom { .. }
+        | Op::LeaReg { .. }
+        | Op::LeaSpReg { .. }
+        | Op::LoadReg { .. }
         | Op::StoreBp { .. }
         | Op::LoadBp { .. } => true,
         _ => false,

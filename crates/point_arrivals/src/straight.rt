@@ -45,11 +45,14 @@ fn is_straight_without_offset(op: Op) -> bool
 {
     match op {
         Op::Plain
+        | Op::RegOther { .. }
         | Op::Nop
         | Op::Endbr
         | Op::Push
+        | Op::PushReg { .. }
         | Op::PushBp
         | Op::Pop
+        | Op::PopReg { .. }
         | Op::PopBp
         | Op::Popf
         | Op::Leave
@@ -60,7 +63,15 @@ fn is_straight_without_offset(op: Op) -> bool
         | Op::Stac
         | Op::Clac
         | Op::SubSp
-        | Op::SpReg => true,
+        | Op::AndDrap { .. }
+        | Op::Keep { .. }
+        | Op::SpReg { .. }
+        | Op::BackSp { .. }
+        | Op::StoreSp { .. }
+        | Op::CellSp { .. }
+        | Op::PopSp
+        | Op::CopyBp { .. }
+        | Op::StoreThrough { .. } => true,
         _ => false,
     }
 }

@@ -87,7 +87,7 @@ fn followed_kind(course: Course) -> Option<Kind>
     match course {
         Course::Straight | Course::Idle => Some(Kind::Straight),
         Course::Turn => Some(Kind::Followed),
-        Course::Room | Course::Offset | Course::Stop => None,
+        Course::Offset | Course::Stop => None,
     }
 }
 
