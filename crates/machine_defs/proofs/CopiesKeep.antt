@@ -16,7 +16,7 @@ use Rattle.machine_defs.specs.Program.{Program, IsPoint, below, is_call_op, is_g
 use Rattle.machine_defs.specs.Kept.{can_go, edges_of, is_at_entry, is_free}
 use Rattle.machine_defs.specs.MayReturn.{MayReturn}
 use Rattle.machine_defs.specs.Ways.{is_fixup}
-use Rattle.machine_defs.specs.IsProgram.{IsCallee, IsProgram}
+use Rattle.machine_defs.specs.IsProgram.{IsCallee, IsLaidOut, IsProgram}
 use Rattle.machine_defs.specs.Copies.{CopiesKeepPrograms, IsUncopied, copying_at, faults_to, goes_on_to, insn_with_copies, is_copy, is_held, is_stale, is_uncopied, is_unknown_at, is_wanted, keeps_by, sets_from_rsp, with_copies}
 use Rattle.ot_base.specs.declared.place.Place.{Place}
 use Rattle.machine_defs.proofs.CopyLemmas.{any_at, from_filter, in_below, in_filter, not_true, stale_along, stale_unknown}
@@ -264,3 +264,19 @@ module _ (p : Program) (is : IsProgram p) (uncopied : IsUncopied p) where
 
 pub copies_keep_programs : CopiesKeepPrograms
 copies_keep_programs p is uncopied = kept_program p is uncopied
+
+-- and its instructions lie as they lay
+pub kept_layout : (p : Program) → IsLaidOut p → IsLaidOut (with_copies p)
+unfolding insn_with_copies
+kept_layout p is = record {
+  in_text = record { lengths = is.in_text.lengths; within = is.in_text.within };
+  plain = is.plain;
+  replaced = is.replaced;
+  in_sites = is.in_sites;
+  site_starts = is.site_starts;
+  sites_apart = is.sites_apart;
+  apart = is.apart;
+  in_order = is.in_order;
+  sections = is.sections;
+  hint_points = is.hint_points;
+}

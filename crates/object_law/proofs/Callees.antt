@@ -21,7 +21,7 @@ use Rattle.flow_defs.specs.Sites.{is_past_start, site_holding, sites_of}
 use Rattle.flow_defs.specs.Targets.{names_of}
 use Rattle.symbols_relocs.specs.Parts.{owner_at}
 use Rattle.flow_defs.specs.Roles.{is_free_callee, may_call, may_call_free}
-use Rattle.flow_defs.specs.Program.{graph_of, program_of, returning_graph, uncopied_program}
+use Rattle.flow_defs.specs.Program.{graph_of, uncopied_program, returning_graph}
 use Rattle.object_law.specs.Flows.{ObjectIsInOrder}
 use Rattle.object_law.proofs.Levels.{and_true, not_true}
 use Rattle.object_law.proofs.Entries.{IsFreeCallee, IsCalled, called, point_called}
@@ -67,8 +67,8 @@ module _ (o : Coded) (lists : NameLists) (order : ObjectIsInOrder o) where
       same_place_is site.start place (not-false (same_place site.start place) own)
 
   -- such a place is what the machine lets it call
-  may_call_there : (q entry : ℕ) → IsFreeCallee o (point_at o q) entry → MayCall (program_of o lists) q entry
-  unfolding program_of uncopied_program returning_graph graph_of
+  may_call_there : (q entry : ℕ) → IsFreeCallee o (point_at o q) entry → MayCall (uncopied_program o lists) q entry
+  unfolding uncopied_program returning_graph graph_of
   may_call_there q entry free =
       let place = free.place in
       let callable = is_callable o (point_at o q) place free.passes in
@@ -84,16 +84,16 @@ module _ (o : Coded) (lists : NameLists) (order : ObjectIsInOrder o) where
         hinted = λ r c. told_there o place callable.told r (subst (λ (x : Place). Contains (arrive o x) r) there c);
       }
 
-  callee_is : (q entry : ℕ) → IsCalled o (point_at o q) entry → IsCallee (program_of o lists) q entry
-  unfolding program_of uncopied_program returning_graph graph_of
+  callee_is : (q entry : ℕ) → IsCalled o (point_at o q) entry → IsCallee (uncopied_program o lists) q entry
+  unfolding uncopied_program returning_graph graph_of
   callee_is q entry (inl listed) = inl listed
   callee_is q entry (inr free) = inr (may_call_there q entry free)
 
   -- calls inside the program go to entries, or to such places
-  pub calls_entry : (q entry : ℕ) → IsPoint (program_of o lists) q → (program_of o lists).role q ≡ roles.CallIn entry → IsCallee (program_of o lists) q entry
-  unfolding program_of uncopied_program returning_graph graph_of
+  pub calls_entry : (q entry : ℕ) → IsPoint (uncopied_program o lists) q → (uncopied_program o lists).role q ≡ roles.CallIn entry → IsCallee (uncopied_program o lists) q entry
+  unfolding uncopied_program returning_graph graph_of
   calls_entry q entry here is = callee_is q entry (point_called o (point_at o q) entry (ap called is))
 
-  pub calls_weak_entry : (q entry sym : ℕ) → IsPoint (program_of o lists) q → (program_of o lists).role q ≡ roles.CallEither entry sym → IsCallee (program_of o lists) q entry
-  unfolding program_of uncopied_program returning_graph graph_of
+  pub calls_weak_entry : (q entry sym : ℕ) → IsPoint (uncopied_program o lists) q → (uncopied_program o lists).role q ≡ roles.CallEither entry sym → IsCallee (uncopied_program o lists) q entry
+  unfolding uncopied_program returning_graph graph_of
   calls_weak_entry q entry sym here is = callee_is q entry (point_called o (point_at o q) entry (ap called is))

@@ -8,7 +8,7 @@ use Rattle.operation_defs.specs.declared.op.Op.{Op}
 use Rattle.operation_defs.specs.declared.op.Op.TheVariants as ops
 use Rattle.flow_defs.specs.Coded.{Coded}
 use Rattle.machine_defs.specs.declared.flow.EdgeKind.TheVariants.{Fixup, Next, Taken}
-use Rattle.machine_defs.specs.Program.{IsPoint, edge, entry_points, is_call, is_call_op}
+use Rattle.machine_defs.specs.Program.{IsPoint, edge, entry_points, is_breakpoint, is_call, is_call_op}
 use Rattle.alternatives.specs.declared.point.Point.{Point}
 use Rattle.unwinding_law.proofs.Lists.{from_filter, in_map}
 use Rattle.flow_defs.specs.declared.destination.Destination.{Destination}
@@ -23,10 +23,10 @@ use Rattle.flow_defs.specs.Arrival.{after, around, decoded_insn, insn_of_object,
 use Rattle.flow_defs.specs.Targets.{destination_of}
 use Rattle.flow_defs.specs.Ways.{jump_way}
 use Rattle.flow_defs.specs.Roles.{jump_by_table, jump_by_way, jump_role, returns_through, role_by, role_of, role_through, table_of_point}
-use Rattle.flow_defs.specs.Switching.{insn_by, loads_stack_of}
+use Rattle.flow_defs.specs.Switching.{around_by, insn_by, loads_stack_of}
 use Rattle.operation_defs.specs.Made.{Around, made}
 use Rattle.flow_defs.specs.Edges.{branch_edges, edges_to, ends_flow, fixups, goes, goes_on, is_some_place, listed_edges, next_edges, static_targets, table_edges}
-use Rattle.flow_defs.specs.Program.{entries_of, graph_of, is_entry_point, program_of, returning_graph, uncopied_program}
+use Rattle.flow_defs.specs.Program.{entries_of, graph_of, is_entry_point, uncopied_program, returning_graph}
 use Rattle.object_law.proofs.Levels.{and_true}
 use Rattle.object_law.proofs.Numbers.{numbers_are}
 use Rattle.object_law.proofs.Owners.{arriving_owner, entry_is}
@@ -97,33 +97,57 @@ next_goes o point r checked on c =
     let rest = branch_edges o point ++ (listed_edges o Taken point (static_targets o point) ++ (listed_edges o Fixup point (fixups o point) ++ table_edges o point)) in
     subst (λ b. Contains (cond b [] (next_edges o point ++ rest)) (edge r Next)) (sym checked) (Contains-append_left (next_edges o point) rest (edge r Next) first)
 
+-- what a program makes of no other operation is a breakpoint
+not_either : (b : Bool) (one other : Op) → is_breakpoint one ≡ false → is_breakpoint other ≡ false → cond b one other ≡ ops.Int3 → ⊥
+not_either true one other h k e = false≢true (sym h ∙ ap is_breakpoint e)
+not_either false one other h k e = false≢true (sym k ∙ ap is_breakpoint e)
+
+pub breakpoint_was : (around : Around) (op : Op) → made around op ≡ ops.Int3 → op ≡ ops.Int3
+breakpoint_was around (ops.Call rel) e = absurd (not_either around.returning (ops.Jmp rel true) (cond around.intra_call ops.Hop (ops.Call rel)) refl (hop around.intra_call) e)
+  where
+    hop : (b : Bool) → is_breakpoint (cond b ops.Hop (ops.Call rel)) ≡ false
+    hop true = refl
+    hop false = refl
+breakpoint_was around ops.Iret e = absurd (not_either around.within ops.IretNext ops.Iret refl refl e)
+breakpoint_was around ops.Switch e = absurd (not_either (around.within && around.hinted) ops.SpOther ops.Switch refl refl e)
+breakpoint_was around ops.SpOther e = absurd (not_either around.loads_stack ops.BpOther ops.SpOther refl refl e)
+breakpoint_was around _ e = e
+
 module _ (o : Coded) (lists : NameLists) where
   -- the role of a call is that of a call instruction
-  pub calls : (q : ℕ) → IsPoint (program_of o lists) q → is_call ((program_of o lists).role q) ≡ true → is_call_op ((program_of o lists).insn q).op ≡ true
-  unfolding program_of uncopied_program returning_graph graph_of insn_by insn_of_object
+  pub calls : (q : ℕ) → IsPoint (uncopied_program o lists) q → is_call ((uncopied_program o lists).role q) ≡ true → is_call_op ((uncopied_program o lists).insn q).op ≡ true
+  unfolding uncopied_program returning_graph graph_of insn_by insn_of_object
   calls q here e =
       let point = point_at o q in
       calls_as_made (around o point) (loads_stack_of o lists point) (decoded_insn o point).op (call_role_op o point e)
 
   -- the points that follow a call which execution passes are its next points
-  pub call_next : (q r : ℕ) → IsPoint (program_of o lists) q → (program_of o lists).unchecked q ≡ false → is_call ((program_of o lists).role q) ≡ true → (program_of o lists).dead_end q ≡ false → Contains ((program_of o lists).after q) r → Contains ((program_of o lists).goes q) (edge r Next)
-  unfolding program_of uncopied_program returning_graph graph_of
+  pub call_next : (q r : ℕ) → IsPoint (uncopied_program o lists) q → (uncopied_program o lists).unchecked q ≡ false → is_call ((uncopied_program o lists).role q) ≡ true → (uncopied_program o lists).dead_end q ≡ false → Contains ((uncopied_program o lists).after q) r → Contains ((uncopied_program o lists).goes q) (edge r Next)
+  unfolding uncopied_program returning_graph graph_of
   call_next q r here checked call alive c =
       let point = point_at o q in
       next_goes o point r checked (passes_on o point (call_goes_on (insn_of_object o point).op (call_role_op o point call)) alive) c
 
+  -- so are those that follow a breakpoint
+  pub breakpoint_next : (q r : ℕ) → IsPoint (uncopied_program o lists) q → (uncopied_program o lists).unchecked q ≡ false → ((uncopied_program o lists).insn q).op ≡ ops.Int3 → (uncopied_program o lists).dead_end q ≡ false → Contains ((uncopied_program o lists).after q) r → Contains ((uncopied_program o lists).goes q) (edge r Next)
+  unfolding uncopied_program returning_graph graph_of insn_by insn_of_object
+  breakpoint_next q r here checked is alive c =
+      let point = point_at o q in
+      let decoded : (decoded_insn o point).op ≡ ops.Int3 = breakpoint_was (around_by o lists point) (decoded_insn o point).op is in
+      next_goes o point r checked (passes_on o point (ap (λ op. ends_flow (made (around o point) op)) decoded) alive) c
+
   -- no entry is in an unchecked function
-  pub entries_checked : (entry q : ℕ) → Contains (program_of o lists).entries entry → Contains (entry_points (program_of o lists) entry) q → (program_of o lists).unchecked q ≡ false
-  unfolding program_of uncopied_program returning_graph graph_of entries_of
+  pub entries_checked : (entry q : ℕ) → Contains (uncopied_program o lists).entries entry → Contains (entry_points (uncopied_program o lists) entry) q → (uncopied_program o lists).unchecked q ≡ false
+  unfolding uncopied_program returning_graph graph_of entries_of
   entries_checked entry q listed arrives =
       let point = point_at o entry in
       let own = from_filter (is_entry_point o) (points_of_object o) point (numbers_are o _ entry listed).1 in
       ap (is_unchecked o.elf) (arriving_owner o point.place q arrives) ∙ (entry_is o.elf point.place (and_true (is_plain point) (is_entry o.elf point.place) own.1).1).checked
 
   -- control that comes to a plain point stands in code of its owner
-  pub arrives_owned : (q r : ℕ) → IsPoint (program_of o lists) q → (program_of o lists).variant q ≡ 0 → Contains (entry_points (program_of o lists) q) r
-      → ((program_of o lists).owner r ≡ (program_of o lists).owner q) × ((program_of o lists).unchecked r ≡ (program_of o lists).unchecked q)
-  unfolding program_of uncopied_program returning_graph graph_of
+  pub arrives_owned : (q r : ℕ) → IsPoint (uncopied_program o lists) q → (uncopied_program o lists).variant q ≡ 0 → Contains (entry_points (uncopied_program o lists) q) r
+      → ((uncopied_program o lists).owner r ≡ (uncopied_program o lists).owner q) × ((uncopied_program o lists).unchecked r ≡ (uncopied_program o lists).unchecked q)
+  unfolding uncopied_program returning_graph graph_of
   arrives_owned q r here plain arrives =
       let at : address_of_point (alternatives_of o) (point_at o q) ≡ (point_at o q).place = address_plain o (point_at o q) plain in
       let same : owner_of_point o (point_at o r) ≡ owner_of_point o (point_at o q) = arriving_owner o (point_at o q).place r arrives ∙ ap (owner_at o.elf) (sym at) in

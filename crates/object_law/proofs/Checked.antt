@@ -25,7 +25,7 @@ use Rattle.flow_defs.specs.Arrival.{is_padding}
 use Rattle.flow_defs.specs.Owners.{is_entry, is_unchecked, is_unchecked_point, owner_of_point, unchecked_start}
 use Rattle.flow_defs.specs.Roles.{table_of_point}
 use Rattle.flow_defs.specs.Ways.{branch_way, checked_way, inside_only, is_crossing, listed_way, may_cross, way_by}
-use Rattle.flow_defs.specs.Program.{graph_of, program_of, returning_graph, uncopied_program}
+use Rattle.flow_defs.specs.Program.{graph_of, uncopied_program, returning_graph}
 use Rattle.object_law.proofs.Levels.{and_true, not_true}
 use Rattle.object_law.proofs.Numbers.{numbers_are}
 use Rattle.object_law.proofs.Edges.{Comes, edge_comes}
@@ -131,6 +131,6 @@ comes_checked o point e checked stays (Comes.table place c to) =
     ap (is_unchecked o.elf) (arriving_owner o place e.to to.arrives ∙ table_owner o point place c) ∙ checked
 
 -- so it is in the program
-pub checked : (o : Coded) (lists : NameLists) (q : ℕ) (e : Edge) → IsPoint (program_of o lists) q → (program_of o lists).unchecked q ≡ false → Contains ((program_of o lists).goes q) e → (e.kind ≡ Next → (program_of o lists).owner e.to ≡ (program_of o lists).owner q) → (program_of o lists).unchecked e.to ≡ false
-unfolding program_of uncopied_program returning_graph graph_of
+pub checked : (o : Coded) (lists : NameLists) (q : ℕ) (e : Edge) → IsPoint (uncopied_program o lists) q → (uncopied_program o lists).unchecked q ≡ false → Contains ((uncopied_program o lists).goes q) e → (e.kind ≡ Next → (uncopied_program o lists).owner e.to ≡ (uncopied_program o lists).owner q) → (uncopied_program o lists).unchecked e.to ≡ false
+unfolding uncopied_program returning_graph graph_of
 checked o lists q e here is c stays = let from = edge_comes o (point_at o q) e c in comes_checked o (point_at o q) e from.0 stays from.1

@@ -35,7 +35,7 @@ use Rattle.flow_defs.specs.Arrival.{arrive, insn_of_object, is_padding}
 use Rattle.flow_defs.specs.Targets.{destination_of}
 use Rattle.flow_defs.specs.Ways.{jump_way}
 use Rattle.flow_defs.specs.Roles.{call_by, call_of_gate, call_role, entry_call, gate_called, is_called, jump_by_table, jump_by_way, jump_role, may_call, place_call, plain_number, returns_through, role_by, role_of, role_through, table_of_point}
-use Rattle.flow_defs.specs.Program.{entries_of, graph_of, is_entry_point, program_of, returning_graph, uncopied_program}
+use Rattle.flow_defs.specs.Program.{entries_of, graph_of, is_entry_point, uncopied_program, returning_graph}
 use Rattle.object_law.proofs.Numbers.{numbered, point_count}
 use Rattle.object_law.proofs.Edges.{Comes, edge_comes}
 use Rattle.object_law.proofs.Checked.{Leads, Ways, listed_leads, way_leads}
@@ -215,8 +215,8 @@ tail_call o point q (Comes.table place c to) = absurd (let is = to.is_kind in le
 
 module _ (o : Coded) (lists : NameLists) where
   -- tail calls go to entries
-  pub siblings : (q r : ℕ) → IsPoint (program_of o lists) q → Contains ((program_of o lists).goes q) (edge r Sibling) → (entry : ℕ) × Contains (program_of o lists).entries entry × Contains (entry_points (program_of o lists) entry) r
-  unfolding program_of uncopied_program returning_graph graph_of
+  pub siblings : (q r : ℕ) → IsPoint (uncopied_program o lists) q → Contains ((uncopied_program o lists).goes q) (edge r Sibling) → (entry : ℕ) × Contains (uncopied_program o lists).entries entry × Contains (entry_points (uncopied_program o lists) entry) r
+  unfolding uncopied_program returning_graph graph_of
   siblings q r here c =
       let call = tail_call o (point_at o q) r (edge_comes o (point_at o q) (edge r Sibling) c).1 in
       let own = listed_entry o call.place call.boundary call.entry in

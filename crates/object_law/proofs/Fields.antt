@@ -18,7 +18,7 @@ use Rattle.alternatives.specs.declared.point.Point.{Point}
 use Rattle.flow_defs.specs.Code.{number_of, point_at}
 use Rattle.flow_defs.specs.Owners.{is_unchecked}
 use Rattle.flow_defs.specs.Hints.{hint_of, is_restore, nearest, save_of, saves_before}
-use Rattle.flow_defs.specs.Program.{graph_of, program_of, returning_graph, uncopied_program}
+use Rattle.flow_defs.specs.Program.{graph_of, uncopied_program, returning_graph}
 use Rattle.flow_defs.specs.Roles.{returns_through, returns_through_by, role_by, role_of, role_through}
 use Rattle.flow_defs.specs.Arrival.{around, decoded_insn, insn_of_object}
 use Rattle.flow_defs.specs.Switching.{around_by, insn_by}
@@ -42,7 +42,6 @@ made_of_drop around (ops.Call rel) e = absurd (either around.returning (ops.Jmp 
     hop : (b : Bool) → drops (cond b ops.Hop (ops.Call rel)) ≡ false
     hop true = refl
     hop false = refl
-made_of_drop around (ops.LeaBpSp by) e = absurd (either around.makes_room (ops.LeaBpRoom by) (ops.LeaBpSp by) refl refl e)
 made_of_drop around ops.Iret e = absurd (either around.within ops.IretNext ops.Iret refl refl e)
 made_of_drop around ops.Switch e = absurd (either (around.within && around.hinted) ops.SpOther ops.Switch refl refl e)
 made_of_drop around ops.SpOther e = absurd (either around.loads_stack ops.BpOther ops.SpOther refl refl e)
@@ -55,23 +54,23 @@ role_of_drop o point is =
 
 module _ (o : Coded) (lists : NameLists) where
   -- edges lead to points
-  pub edges : (q : ℕ) (e : Edge) → IsPoint (program_of o lists) q → Contains ((program_of o lists).goes q) e → IsPoint (program_of o lists) e.to
-  unfolding program_of uncopied_program returning_graph graph_of
+  pub edges : (q : ℕ) (e : Edge) → IsPoint (uncopied_program o lists) q → Contains ((uncopied_program o lists).goes q) e → IsPoint (uncopied_program o lists) e.to
+  unfolding uncopied_program returning_graph graph_of
   edges q e here c = edges_inside o (point_at o q) e c
 
   -- control arrives at points
-  pub arrivals : (place : Place) (q : ℕ) → Contains ((program_of o lists).arrive place) q → IsPoint (program_of o lists) q
-  unfolding program_of uncopied_program returning_graph graph_of
+  pub arrivals : (place : Place) (q : ℕ) → Contains ((uncopied_program o lists).arrive place) q → IsPoint (uncopied_program o lists) q
+  unfolding uncopied_program returning_graph graph_of
   arrivals place q c = (arrive_points o place q c).0
 
   -- points follow points
-  pub followers : (q r : ℕ) → IsPoint (program_of o lists) q → Contains ((program_of o lists).after q) r → IsPoint (program_of o lists) r
-  unfolding program_of uncopied_program returning_graph graph_of
+  pub followers : (q r : ℕ) → IsPoint (uncopied_program o lists) q → Contains ((uncopied_program o lists).after q) r → IsPoint (uncopied_program o lists) r
+  unfolding uncopied_program returning_graph graph_of
   followers q r here c = after_points o (point_at o q) r c
 
   -- a RESTORE means a point
-  pub saves : (q r : ℕ) → IsPoint (program_of o lists) q → (program_of o lists).save_of q ≡ Some r → IsPoint (program_of o lists) r
-  unfolding program_of uncopied_program returning_graph graph_of save_of
+  pub saves : (q r : ℕ) → IsPoint (uncopied_program o lists) q → (uncopied_program o lists).save_of q ≡ Some r → IsPoint (uncopied_program o lists) r
+  unfolding uncopied_program returning_graph graph_of save_of
   saves q r here is = by_hint (is_restore (hint_of o (point_at o q))) is
     where
       of_one : (one : Option Point) → option_and_then (number_of o) one ≡ Some r → r < point_count o
@@ -83,13 +82,13 @@ module _ (o : Coded) (lists : NameLists) where
       by_hint false e = absurd (let k : ⊥ = cc in k)
 
   -- points without owner are checked
-  pub unowned : (q : ℕ) → IsPoint (program_of o lists) q → (program_of o lists).owner q ≡ None → (program_of o lists).unchecked q ≡ false
-  unfolding program_of uncopied_program returning_graph graph_of
+  pub unowned : (q : ℕ) → IsPoint (uncopied_program o lists) q → (uncopied_program o lists).owner q ≡ None → (uncopied_program o lists).unchecked q ≡ false
+  unfolding uncopied_program returning_graph graph_of
   unowned q here none = ap (is_unchecked o.elf) none
 
   -- a return that drops bytes is a return, and names nothing
-  pub returns : (q : ℕ) → IsPoint (program_of o lists) q → ((program_of o lists).insn q).op ≡ ops.RetImm → ((program_of o lists).role q ≡ roles.Return) × ((program_of o lists).names q ≡ None)
-  unfolding program_of uncopied_program returning_graph graph_of insn_by
+  pub returns : (q : ℕ) → IsPoint (uncopied_program o lists) q → ((uncopied_program o lists).insn q).op ≡ ops.RetImm → ((uncopied_program o lists).role q ≡ roles.Return) × ((uncopied_program o lists).names q ≡ None)
+  unfolding uncopied_program returning_graph graph_of insn_by
   returns q here is =
       let point = point_at o q in
       let drops : (decoded_insn o point).op ≡ ops.RetImm = made_of_drop (around_by o lists point) (decoded_insn o point).op is in
@@ -103,8 +102,8 @@ module _ (o : Coded) (lists : NameLists) where
   }
 
   -- the least set speaks of the graph alone, not of what is told of it afterwards
-  to_program : (q : ℕ) → MayReturn (graph_of o lists) q → MayReturn (program_of o lists) q
-  unfolding program_of uncopied_program returning_graph
+  to_program : (q : ℕ) → MayReturn (graph_of o lists) q → MayReturn (uncopied_program o lists) q
+  unfolding uncopied_program returning_graph
   to_program _ (MayReturn.returns q is) = MayReturn.returns q is
   to_program _ (MayReturn.jumps_anywhere q is) = MayReturn.jumps_anywhere q is
   to_program _ (MayReturn.jumps_out q sym is back) = MayReturn.jumps_out q sym is back
@@ -113,8 +112,8 @@ module _ (o : Coded) (lists : NameLists) where
   to_program _ (MayReturn.comes_back q r back alive c from) = MayReturn.comes_back q r back alive c (to_program r from)
   to_program _ (MayReturn.comes_back_in q r entry first is unlisted alive arrives inside c from) = MayReturn.comes_back_in q r entry first is unlisted alive arrives (to_program first inside) c (to_program r from)
 
-  to_graph : (q : ℕ) → MayReturn (program_of o lists) q → MayReturn (graph_of o lists) q
-  unfolding program_of uncopied_program returning_graph
+  to_graph : (q : ℕ) → MayReturn (uncopied_program o lists) q → MayReturn (graph_of o lists) q
+  unfolding uncopied_program returning_graph
   to_graph _ (MayReturn.returns q is) = MayReturn.returns q is
   to_graph _ (MayReturn.jumps_anywhere q is) = MayReturn.jumps_anywhere q is
   to_graph _ (MayReturn.jumps_out q sym is back) = MayReturn.jumps_out q sym is back
@@ -123,8 +122,8 @@ module _ (o : Coded) (lists : NameLists) where
   to_graph _ (MayReturn.comes_back q r back alive c from) = MayReturn.comes_back q r back alive c (to_graph r from)
   to_graph _ (MayReturn.comes_back_in q r entry first is unlisted alive arrives inside c from) = MayReturn.comes_back_in q r entry first is unlisted alive arrives (to_graph first inside) c (to_graph r from)
 
-  pub may_return : (q : ℕ) → IsPoint (program_of o lists) q → ((program_of o lists).may_return q ≡ true) ↔ MayReturn (program_of o lists) q
-  unfolding program_of uncopied_program returning_graph
+  pub may_return : (q : ℕ) → IsPoint (uncopied_program o lists) q → ((uncopied_program o lists).may_return q ≡ true) ↔ MayReturn (uncopied_program o lists) q
+  unfolding uncopied_program returning_graph
   may_return q here =
       let enough = levels_are_enough (graph_of o lists) stays q here in
       (λ passes. to_program q (enough.0 passes), λ from. enough.1 (to_graph q from))

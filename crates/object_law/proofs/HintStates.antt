@@ -38,7 +38,7 @@ use Rattle.alternatives.specs.declared.point.Point.{Point}
 use Rattle.alternatives.specs.Points.{entry_of}
 use Rattle.flow_defs.specs.Code.{alternatives_of, point_at}
 use Rattle.flow_defs.specs.Arrival.{for_replacements, hint_of, is_first_of_replacement, is_padding, own_hint_of, start_hint_of}
-use Rattle.flow_defs.specs.Program.{graph_of, program_of, returning_graph, uncopied_program}
+use Rattle.flow_defs.specs.Program.{graph_of, uncopied_program, returning_graph}
 use Rattle.object_law.proofs.Levels.{and_false}
 use Rattle.object_law.proofs.Owners.{from_map}
 
@@ -226,8 +226,8 @@ start_consistent o point s is = go (is_first_of_replacement o point) is
     go false e = absurd (let k : ⊥ = cc in k)
 
 -- states that hints set are consistent
-pub hints : (o : Coded) (lists : NameLists) (q : ℕ) (s : State) → IsPoint (program_of o lists) q → (program_of o lists).hint q ≡ Some (Set s) → IsConsistent s
-unfolding program_of uncopied_program returning_graph graph_of hint_of
+pub hints : (o : Coded) (lists : NameLists) (q : ℕ) (s : State) → IsPoint (uncopied_program o lists) q → (uncopied_program o lists).hint q ≡ Some (Set s) → IsConsistent s
+unfolding uncopied_program returning_graph graph_of hint_of
 hints o lists q s here is = go (own_hint_of o (point_at o q)) refl is
   where
     go : (own : Option HintState) → own_hint_of o (point_at o q) ≡ own → option_or own (start_hint_of o (point_at o q)) ≡ Some (Set s) → IsConsistent s

@@ -38,6 +38,7 @@ use Rattle.flow_defs.specs.Arrival.{decoded_insn}
 use Rattle.flow_defs.specs.Switching.{insn_by}
 use Rattle.flow_defs.specs.Program.{graph_of, program_of, returning_graph, text_sections_of, uncopied_program}
 use Rattle.flow_defs.specs.Sites.{site_of_entry}
+use Rattle.machine_defs.proofs.CopiesKeep.{kept_layout}
 use Rattle.object_law.specs.Flows.{ObjectIsInOrder}
 use Rattle.object_law.proofs.Bodies.{IsCutIn, before_cut, before_other, text_of}
 use Rattle.object_law.proofs.Entries.{has_number, plain_listed}
@@ -192,9 +193,9 @@ ends_in_site o point insn site order is own inside = elim (variant_is point) [
       omega (arith, over.ends, ap (λ (p : Place). p.off) over.address, ap (λ (s : Site). s.start.off) same, ap (λ (s : Site). s.len) same)
 ]
 
-pub laid_out : (o : Coded) (lists : NameLists) → ObjectIsInOrder o → IsLaidOut (program_of o lists)
-unfolding program_of uncopied_program returning_graph graph_of insn_by text_sections_of
-laid_out o lists order = record {
+uncopied_laid_out : (o : Coded) (lists : NameLists) → ObjectIsInOrder o → IsLaidOut (uncopied_program o lists)
+unfolding uncopied_program returning_graph graph_of insn_by text_sections_of
+uncopied_laid_out o lists order = record {
   in_text = in_text o lists order;
   plain = λ q here variant. address_plain o (point_at o q) variant;
   replaced = λ q here other. (
@@ -220,3 +221,7 @@ laid_out o lists order = record {
   sections = made_rise (λ i. let t : TextSection = record { sec = i; size = (section_at o.elf i).size } in t) (λ (t : TextSection). t.sec) (text_numbers o.elf) (λ i. refl) (numbers_rise o.elf);
   hint_points = hint_points o lists order;
 }
+
+pub laid_out : (o : Coded) (lists : NameLists) → ObjectIsInOrder o → IsLaidOut (program_of o lists)
+unfolding program_of
+laid_out o lists order = kept_layout (uncopied_program o lists) (uncopied_laid_out o lists order)
