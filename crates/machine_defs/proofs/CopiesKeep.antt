@@ -1,5 +1,5 @@
 -- A program is one with copies of rsp as well.
-use Rattle.std.proofs.Common.{◌≡◌, ℕ, ◌+◌, ◌⊎◌, inl, inr, Bool, true, false, not, ◌&&◌, ◌||◌, Option, Some, None, nat_lt, refl, sym, ap, ◌∙◌, subst, if◌then◌else◌, ◌==◌, ℤ}
+use Rattle.std.proofs.Common.{◌≡◌, ℕ, ◌⊎◌, inl, inr, Bool, true, false, not, ◌&&◌, ◌||◌, Option, Some, None, nat_lt, refl, sym, ap, ◌∙◌, subst, if◌then◌else◌, ◌==◌, ℤ}
 use Rattle.std.specs.Prelude.{Contains}
 use Rattle.std.specs.List.{list_any}
 use Rattle.std.proofs.lemmas.Bool.{and_from, and_parts, or_left, or_right, and_right, eqb-true, eq-eqb, false≢true, true≢false, cases_Bool}
@@ -18,7 +18,6 @@ use Rattle.machine_defs.specs.MayReturn.{MayReturn}
 use Rattle.machine_defs.specs.Ways.{is_fixup}
 use Rattle.machine_defs.specs.IsProgram.{IsCallee, IsLaidOut, IsProgram}
 use Rattle.machine_defs.specs.Copies.{CopiesKeepPrograms, IsUncopied, copying_at, faults_to, goes_on_to, insn_with_copies, is_copy, is_held, is_stale, is_uncopied, is_unknown_at, is_wanted, keeps_by, sets_from_rsp, with_copies}
-use Rattle.ot_base.specs.declared.place.Place.{Place}
 use Rattle.machine_defs.proofs.CopyLemmas.{any_at, from_filter, in_below, in_filter, not_true, stale_along, stale_unknown}
 
 -- What copies make of an operation: it stays, or becomes another one of its kind.
@@ -249,9 +248,6 @@ module _ (p : Program) (is : IsProgram p) (uncopied : IsUncopied p) where
     call_next = is.call_next;
     returns = λ q here e. is.returns q here (return_was (p.insn q).op (insn_with_copies p q).op (makes q) e);
     breakpoint_next = λ q r here checked e. is.breakpoint_next q r here checked (breakpoint_was (p.insn q).op (insn_with_copies p q).op (makes q) e);
-    behind_breakpoint = λ q r here e alive c.
-        is.behind_breakpoint q r here (breakpoint_was (p.insn q).op (insn_with_copies p q).op (makes q) e) alive c
-        ∙ ap (λ (len : ℕ). let place : Place = record { sec = (p.address q).sec; off = (p.address q).off + len } in place) (sym (same_len q));
     holds = λ q r e here listed local held. holds_behind q r e here listed local held;
     fixups_hold = λ q r e here listed fixup. unheld e.to r (stale_unknown p r e.to (is.edges q e here listed) (fixup_unknown q e here listed fixup));
     restores_hold = λ q r here hint. unheld q r (stale_unknown p r q here (hint_unknown q hint));

@@ -11,7 +11,7 @@ use Rattle.state_defs.specs.Frame.{Slot, PartialAt, FullAt, HoldsNothing, is_of_
 use Rattle.state_defs.specs.State.{view_of, MeansTop}
 use Rattle.machine_defs.specs.Program.{Program}
 use Rattle.machine_defs.specs.Kept.{is_free}
-use Rattle.machine_defs.specs.Machine.{Bases, IsOutside, Standing}
+use Rattle.machine_defs.specs.Machine.{Bases, IsOutside, Standing, point_address}
 
 -- the frames that are listed keep their protected slots
 abbrev pub KeepsSlots : Standing → Type 0
@@ -47,7 +47,7 @@ pub data Settles (p : Program) (bases : Bases) : Bool → List Frame → List Fr
   as_it_is : (trap : Bool) (f : Frame) (fs : List Frame) → f.trap ≡ trap → Settles p bases trap (f ∷ fs) (f ∷ fs)
   outermost : (f : Frame) (fs : List Frame) → f.trap ≡ true → f.call ≡ None → IsOutside p bases f.ra
       → Settles p bases false (f ∷ fs) (record f { trap = false } ∷ fs)
-  inner : (f : Frame) (fs : List Frame) (call behind : ℕ) → f.trap ≡ true → f.call ≡ Some call → p.dead_end call ≡ false → Contains (p.after call) behind
+  inner : (f : Frame) (fs : List Frame) (call behind : ℕ) → f.trap ≡ true → f.call ≡ Some call → p.dead_end call ≡ false → Contains (p.after call) behind → f.ra ≡ point_address p bases behind
       → ((r : ℕ) → Contains (p.after call) r → is_free (p.hint r) ≡ true)
       → Settles p bases false (f ∷ fs) (record f { trap = false; call = Some behind; held = HoldsNothing } ∷ fs)
 

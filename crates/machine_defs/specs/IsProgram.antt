@@ -44,9 +44,8 @@ pub record IsProgram (p : Program) : Type 0 where
   pub calls : (q : ℕ) → IsPoint p q → is_call (p.role q) ≡ true → is_call_op (p.insn q).op ≡ true
   pub call_next : (q r : ℕ) → IsPoint p q → p.unchecked q ≡ false → is_call (p.role q) ≡ true → p.dead_end q ≡ false → Contains (p.after q) r → Contains (p.goes q) (edge r Next)
   pub returns : (q : ℕ) → IsPoint p q → (p.insn q).op ≡ RetImm → (p.role q ≡ Return) × (p.names q ≡ None)
-  -- the points that follow a breakpoint which execution passes are its next points, and stand right behind it
+  -- the points that follow a breakpoint which execution passes are its next points
   pub breakpoint_next : (q r : ℕ) → IsPoint p q → p.unchecked q ≡ false → (p.insn q).op ≡ Int3 → p.dead_end q ≡ false → Contains (p.after q) r → Contains (p.goes q) (edge r Next)
-  pub behind_breakpoint : (q r : ℕ) → IsPoint p q → (p.insn q).op ≡ Int3 → p.dead_end q ≡ false → Contains (p.after q) r → p.address r ≡ record { sec = (p.address q).sec; off = (p.address q).off + (p.insn q).len }
   -- A register that is held at a point to which an instruction goes on was set by that from rsp, or not lost; none is held at a fixup, nor at a
   -- RESTORE.
   pub holds : (q r : ℕ) (e : Edge) → IsPoint p q → Contains (edges_of p q) e → is_local e.kind ≡ true → p.held e.to r ≡ true → (loses (p.insn q) r ≡ false) ⊎ (follows (p.insn q).op r ≡ true)

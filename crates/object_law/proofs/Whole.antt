@@ -7,7 +7,6 @@ use Rattle.std.proofs.lemmas.Bool.{false≢true}
 use Rattle.machine_defs.proofs.CopiesKeep.{copies_keep_programs}
 use Rattle.flow_defs.specs.Program.{graph_of, program_of, returning_graph, uncopied_program}
 use Rattle.object_law.specs.Flows.{ObjectIsInOrder}
-use Rattle.object_law.proofs.Breakpoints as of_breakpoints
 use Rattle.object_law.proofs.Callees as of_callees
 use Rattle.object_law.proofs.Calls as of_calls
 use Rattle.object_law.proofs.Checked as of_checked
@@ -35,7 +34,6 @@ uncopied_is_one o lists order = record {
   call_next = of_calls.call_next o lists;
   returns = of_fields.returns o lists;
   breakpoint_next = of_calls.breakpoint_next o lists;
-  behind_breakpoint = of_breakpoints.behind_breakpoint o lists;
   holds = λ q r e here listed local held. absurd (false≢true held);
   fixups_hold = λ q r e here listed fixup. refl;
   restores_hold = λ q r here hint. refl;
