@@ -41,8 +41,8 @@ mark_at s = record {
 
 -- A hint over saved registers tells whether they are those of a breakpoint: the top frame says the same. Where the hint says that of
 -- an interrupt and the top frame is that of a breakpoint, this is settled: it goes back to what follows the breakpoint, as an
--- interrupt there. For that the breakpoint isn't a dead end, and what follows it has no hint that sets or restores the state; and
--- one that was there at the start goes back to code outside, to the address itself.
+-- interrupt there. For that the breakpoint isn't a dead end, and what follows it stands at that address and has no hint that sets or
+-- restores the state; and one that was there at the start goes back to code outside, to the address itself.
 pub data Settles (p : Program) (bases : Bases) : Bool → List Frame → List Frame → Type 0 where
   as_it_is : (trap : Bool) (f : Frame) (fs : List Frame) → f.trap ≡ trap → Settles p bases trap (f ∷ fs) (f ∷ fs)
   outermost : (f : Frame) (fs : List Frame) → f.trap ≡ true → f.call ≡ None → IsOutside p bases f.ra
