@@ -34,13 +34,13 @@ abbrev pub around_by : Coded → NameLists → Point → Around
 around_by o lists point = record (around o point) { loads_stack = loads_stack_of o lists point }
 
 -- the registers that are written: all where tasks are switched
-abbrev pub writes_by : Bool → Op → ℕ → ℕ
-writes_by true SpOther writes = 0xFFFF
-writes_by loads_stack op writes = writes
+abbrev pub writes_by : Op → Bool → ℕ → ℕ
+writes_by SpOther true writes = 0xFFFF
+writes_by op loads_stack writes = writes
 
 -- the instruction of a point, as the program has it before copies of rsp are looked at
 unfoldable pub insn_by : Coded → NameLists → Point → Insn
 insn_by o lists point =
     let insn = decoded_insn o point in
     let around = around_by o lists point in
-    record insn { op = made around insn.op; writes = writes_by around.loads_stack insn.op insn.writes }
+    record insn { op = made around insn.op; writes = writes_by insn.op around.loads_stack insn.writes }

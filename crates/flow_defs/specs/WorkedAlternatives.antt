@@ -52,7 +52,7 @@ pub record HasPatchedJumps (lists : NameLists) : Type 0 where
       ∷ (edge 17 Next ∷ []) ∷ (edge 1 Next ∷ []) ∷ [] ∷ (edge 19 Taken ∷ []) ∷ (edge 1 Next ∷ []) ∷ [])
   pub arrives : (program_of patched_jumps lists).arrive (record { sec = 1; off = 0 }) ≡ 0 ∷ 3 ∷ 10 ∷ 18 ∷ []
   pub bad : (program_of patched_jumps lists).marks 17 ≡ record no_marks { bad = true }
-  pub padding : (program_of patched_jumps lists).insn 19 ≡ record { len = 3; op = Nop }
+  pub padding : (program_of patched_jumps lists).insn 19 ≡ record { len = 3; op = Nop; writes = 0 }
   pub address : (program_of patched_jumps lists).address 19 ≡ record { sec = 1; off = 2 }
 
 -- g is two no-ops of 6 bytes and a return, with two replacements for the no-ops: a call of f by a relocation, which f is at 7,
@@ -131,5 +131,5 @@ nested = object
 pub record HasNested (lists : NameLists) : Type 0 where
   pub sites : (program_of nested lists).sites ≡ record { start = record { sec = 1; off = 0 }; len = 5 } ∷ []
   pub arrives : (program_of nested lists).arrive (record { sec = 1; off = 0 }) ≡ 0 ∷ 3 ∷ 6 ∷ []
-  pub padding : map (program_of nested lists).insn (5 ∷ 7 ∷ []) ≡ (record { len = 3; op = Nop } ∷ record { len = 4; op = Nop } ∷ [])
+  pub padding : map (program_of nested lists).insn (5 ∷ 7 ∷ []) ≡ (record { len = 3; op = Nop; writes = 0 } ∷ record { len = 4; op = Nop; writes = 0 } ∷ [])
   pub leaves : map (program_of nested lists).goes (5 ∷ 7 ∷ []) ≡ ((edge 1 Next ∷ []) ∷ (edge 1 Next ∷ []) ∷ [])

@@ -41,8 +41,12 @@ in_text off = record { sec = 1; off = off }
 abbrev pub in_replacement : ℕ → Place
 in_replacement off = record { sec = 2; off = off }
 
+-- an instruction that writes no register, and one that writes these, by the bits of a number
 abbrev pub insn : Op → ℕ → Insn
-insn op len = record { len = len; op = op }
+insn op len = record { len = len; op = op; writes = 0 }
+
+abbrev pub writing : Op → ℕ → ℕ → Insn
+writing op len registers = record { len = len; op = op; writes = registers }
 
 -- what each point has
 abbrev pub of_points : {X : Type 0} → Program → (ℕ → X) → List X

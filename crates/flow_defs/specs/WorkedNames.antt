@@ -14,7 +14,7 @@ use Rattle.machine_defs.specs.Program.{edge, no_marks}
 use Rattle.flow_defs.specs.Coded.{Coded}
 use Rattle.flow_defs.specs.Program.{program_of}
 use Rattle.flow_defs.specs.WorkedCalls.{before}
-use Rattle.flow_defs.specs.WorkedFields.{insn, of_points}
+use Rattle.flow_defs.specs.WorkedFields.{insn, writing, of_points}
 use Rattle.flow_defs.specs.WorkedObjects.{code_section, data_section, edges_of_points, for_section, function_symbol, marks_of_points, object, outside, reloc, roles_of_points, zeros}
 
 -- a label of assembly code with a size, and the name of a source file
@@ -89,4 +89,4 @@ task_switch = object
 pub record HasTaskSwitch (lists : NameLists) : Type 0 where
   pub loose : of_points (program_of task_switch lists) (program_of task_switch lists).loose
       ≡ set.contains lists.loose (codes "f") ∷ set.contains lists.loose (codes "f") ∷ false ∷ []
-  pub load : (program_of task_switch lists).insn 1 ≡ insn (if set.contains lists.switching (codes "f") then ops.BpOther else ops.SpOther) 3
+  pub load : (program_of task_switch lists).insn 1 ≡ (if set.contains lists.switching (codes "f") then writing ops.BpOther 3 0xFFFF else writing ops.SpOther 3 0x10)

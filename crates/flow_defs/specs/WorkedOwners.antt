@@ -60,7 +60,7 @@ irets = object (code_section (codes ".text") 5 (0x48 ∷ 0xCF ∷ 0xC3 ∷ 0x48 
     (function_symbol (codes "f") 1 0 3 ∷ function_symbol (codes "g") 1 3 2 ∷ []) ([] ∷ [])
 
 pub record HasIrets (lists : NameLists) : Type 0 where
-  pub insns : map (program_of irets lists).insn (0 ∷ 1 ∷ 2 ∷ []) ≡ (record { len = 2; op = IretNext } ∷ record { len = 1; op = Ret } ∷ record { len = 2; op = Iret } ∷ [])
+  pub insns : map (program_of irets lists).insn (0 ∷ 1 ∷ 2 ∷ []) ≡ (record { len = 2; op = IretNext; writes = 0 } ∷ record { len = 1; op = Ret; writes = 0 } ∷ record { len = 2; op = Iret; writes = 0 } ∷ [])
   pub roles : roles_of_points (program_of irets lists) ≡ (Plain ∷ Return ∷ Switch ∷ [])
   pub edges : edges_of_points (program_of irets lists) ≡ ((edge 1 Next ∷ []) ∷ [] ∷ [] ∷ [])
   pub marks : marks_of_points (program_of irets lists) ≡ (no_marks ∷ no_marks ∷ no_marks ∷ [])

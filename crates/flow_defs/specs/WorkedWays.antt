@@ -9,7 +9,7 @@ use Rattle.machine_defs.specs.declared.flow.EdgeKind.TheVariants.{Next, Taken, T
 use Rattle.machine_defs.specs.declared.flow.Role.TheVariants.{Plain, CallIn, Return, Switch}
 use Rattle.machine_defs.specs.Program.{edge, no_marks}
 use Rattle.flow_defs.specs.Program.{program_of}
-use Rattle.flow_defs.specs.WorkedFields.{insn, of_points}
+use Rattle.flow_defs.specs.WorkedFields.{insn, writing, of_points}
 use Rattle.flow_defs.specs.WorkedObjects.{code_section, data_section, edges_of_points, for_section, function_symbol, marks_of_points, object, reloc, roles_of_points, zeros}
 
 -- f calls its own code at 6, over a byte, and there drops the word that was pushed; at 10 it calls g, which stands behind its
@@ -59,7 +59,7 @@ system_calls = object
 pub record HasSystemCalls (lists : NameLists) : Type 0 where
   pub hints : of_points (program_of system_calls lists) (program_of system_calls lists).hint ≡ None ∷ Some Save ∷ Some Restore ∷ None ∷ None ∷ None ∷ []
   pub insns : of_points (program_of system_calls lists) (program_of system_calls lists).insn
-      ≡ insn ops.Push 1 ∷ insn ops.SpOther 2 ∷ insn ops.Pop 1 ∷ insn ops.Ret 1 ∷ insn ops.Switch 2 ∷ insn ops.Ret 1 ∷ []
+      ≡ insn ops.Push 1 ∷ writing ops.SpOther 2 0xFFFF ∷ writing ops.Pop 1 2 ∷ insn ops.Ret 1 ∷ writing ops.Switch 2 0xFFFF ∷ insn ops.Ret 1 ∷ []
   pub roles : roles_of_points (program_of system_calls lists) ≡ (Plain ∷ Plain ∷ Plain ∷ Return ∷ Switch ∷ Return ∷ [])
   pub edges : edges_of_points (program_of system_calls lists) ≡ ((edge 1 Next ∷ []) ∷ (edge 2 Next ∷ []) ∷ (edge 3 Next ∷ []) ∷ [] ∷ [] ∷ [] ∷ [])
 
@@ -84,4 +84,5 @@ room = object (code_section (codes ".text") 13 (0x55 ∷ 0x48 ∷ 0x89 ∷ 0xE5 
 -- f makes room, g makes none
 pub record HasRoom (lists : NameLists) : Type 0 where
   pub insns : of_points (program_of room lists) (program_of room lists).insn
-      ≡ insn ops.PushBp 1 ∷ insn (ops.LeaBpRoom (pos 0)) 3 ∷ insn ops.SubSp 3 ∷ insn ops.Leave 1 ∷ insn ops.Ret 1 ∷ insn (ops.LeaBpSp (pos 0)) 3 ∷ insn ops.Ret 1 ∷ []
+      ≡ insn ops.PushBp 1 ∷ writing (ops.LeaBpRoom (pos 0)) 3 0x20 ∷ writing ops.SubSp 3 0x10 ∷ writing ops.Leave 1 0x20 ∷ insn ops.Ret 1
+      ∷ writing (ops.LeaBpSp (pos 0)) 3 0x20 ∷ insn ops.Ret 1 ∷ []
