@@ -1,9 +1,16 @@
 pub mod Addresses
 pub mod Arrivals
 pub mod Consistent
+pub mod Depths
 pub mod Kept
+pub mod LiveBacks
+pub mod LiveMoves
+pub mod LiveSlots
+pub mod LiveSound
+pub mod LiveStores
 pub mod Memory
 pub mod MovesConsistent
+pub mod Outcomes
 pub mod Pushes
 pub mod RealignedConsistent
 pub mod RealignedEnds
@@ -17,6 +24,7 @@ pub mod RealignedSlots
 pub mod RealignedSound
 pub mod RealignedSteady
 pub mod Results
+pub mod Scenes
 pub mod Slots
 pub mod Stays
 pub mod SwitchingConsistent
