@@ -39,7 +39,7 @@ module _ (p : Program) (is : IsProgram p) (hints : HintsStandAtPoints p) where
       one a point None c = nowhere s c
       one a point (Some t) c =
           let r = brings_edge p a q t s c in
-          subst (λ (z : ℕ). IsPoint p z) r.2 (is.edges a r.0 point (from_filter (λ (e : Edge). can_go p a e.kind) (p.goes a) r.0 r.1).0)
+          subst (λ (z : ℕ). IsPoint p z) r.to (is.edges a r.edge point (from_filter (λ (e : Edge). can_go p a e.kind) (p.goes a) r.edge r.among).0)
 
       from : (a : ℕ) × Contains (below p.count) a × Contains (brought_from p a (states a) q) s → IsPoint p q
       from r = one r.0 (from_below p.count r.0 r.1) (states r.0) r.2

@@ -1,5 +1,5 @@
 -- Kept states: they are of checked points, consistent, and carried along edges.
-use Rattle.std.proofs.Common.{◌≡◌, ℕ, zero, suc, ◌⊎◌, Bool, true, false, if◌then◌else◌, List, [], ◌∷◌, Option, Some, None, Result, Ok, Err, ◌==◌, Contains, filter, option_and_then, refl, sym, ap, ◌∙◌, subst, inl, inr, arith}
+use Rattle.std.proofs.Common.{◌≡◌, ℕ, zero, suc, ◌⊎◌, ◌&&◌, not, Bool, true, false, if◌then◌else◌, List, [], ◌∷◌, Option, Some, None, Result, Ok, Err, ◌==◌, Contains, filter, option_and_then, option_map, map, flat_map, refl, sym, ap, ◌∙◌, subst, inl, inr, arith}
 use Rattle.std.specs.List.{list_any}
 use Rattle.std.proofs.lemmas.Bool.{eq-eqb, eqb-true}
 use Rattle.machine_defs.specs.declared.flow.Edge.{Edge}
@@ -7,19 +7,20 @@ use Rattle.machine_defs.specs.declared.flow.EdgeKind.{EdgeKind}
 use Rattle.machine_defs.specs.declared.flow.EdgeKind.TheVariants.{Next, Taken, Fixup, Table, Sibling}
 use Rattle.state_defs.specs.declared.state.State.{State}
 use Rattle.state_defs.specs.declared.state.EndKind.TheVariants.{Undefined}
-use Rattle.state_defs.specs.declared.state.State.TheVariants.{Ended}
+use Rattle.state_defs.specs.declared.state.State.TheVariants.{Live, Ended, Regs, Poised, Switched, Drap}
 use Rattle.state_defs.specs.declared.state.HintState.{HintState}
 use Rattle.state_defs.specs.declared.state.HintState.TheVariants.{Set, Save, Restore}
-use Rattle.state_defs.specs.State.{initial, IsConsistent}
+use Rattle.state_defs.specs.State.{initial, ended_by, held_by, IsConsistent}
 use Rattle.state_defs.specs.Order.{least, least_with, comes_before}
 use Rattle.state_defs.specs.Move.{move}
+use Rattle.state_defs.specs.Rules.{is_poised}
 use Rattle.state_defs.specs.Sound.{MoveIsConsistent}
 use Rattle.machine_defs.specs.Program.{Program, IsPoint, entry_points, below}
 use Rattle.machine_defs.specs.IsProgram.{IsProgram}
 use Rattle.machine_defs.specs.Kept.{edges_of, moved, loses_stack, loosened, moved_at, brought_along, Brings, brought_from, brought, is_at_entry, first_state, later_state, kept_or, state_at, Kept, is_free}
 use Rattle.machine_defs.specs.Broken.{IsAccepted, mismatch}
 use Rattle.machine_defs.proofs.KeptLemmas.{kept_is_one}
-use Rattle.unwinding_law.proofs.Lists.{here, there, cases, nowhere, in_filter, from_filter, found, in_flat_map, from_flat_map, in_below, from_below}
+use Rattle.unwinding_law.proofs.Lists.{here, there, cases, nowhere, in_filter, from_filter, found, in_flat_map, from_flat_map, in_map, from_map, in_below, from_below}
 use Rattle.unwinding_law.proofs.Same.{state_stable}
 
 -- the least of a list is one of it
@@ -51,14 +52,34 @@ brought_moves s after Table t c = inr (moved_ok after t c)
 brought_moves s after Sibling t c = nowhere t c
 
 -- the move of a loose point is that of its instruction, or the stack is lost
-pub moved_at_kept : (loose : Bool) (r : Result State ℕ) (t : State) → loosened loose r ≡ Ok t → (r ≡ Ok t) ⊎ (t ≡ Ended Undefined)
-moved_at_kept false r t e = inl e
-moved_at_kept true (Ok s) t e = inl e
-moved_at_kept true (Err rule) t e = lost (loses_stack rule) e
+pub loosened_kept : (loose : Bool) (r : Result State ℕ) (t : State) → loosened loose r ≡ Ok t → (r ≡ Ok t) ⊎ (t ≡ Ended Undefined)
+loosened_kept false r t e = inl e
+loosened_kept true (Ok s) t e = inl e
+loosened_kept true (Err rule) t e = lost (loses_stack rule) e
   where
     lost : (b : Bool) → if◌then◌else◌ {A = Result State ℕ} b (Ok (Ended Undefined)) (Err rule) ≡ Ok t → ◌⊎◌ (Err rule ≡ Ok t) (t ≡ Ended Undefined)
     lost true e = inr (let k : t ≡ Ended Undefined = cc in k)
     lost false e = inl e
+
+pub moved_at_kept : (p : Program) (q : ℕ) (s t : State) → moved_at p q s ≡ Ok t → (move s (p.insn q).op ≡ Ok t) ⊎ (t ≡ Ended Undefined)
+moved_at_kept p q s t e = loosened_kept (p.loose q && not (is_poised s)) (move s (p.insn q).op) t e
+
+-- only a copy is left out of a state where registers aren't held
+pub held_ended : (held : ℕ → Bool) (s : State) → ended_by (held_by held s) ≡ ended_by s
+held_ended held (Live d m b c) = refl
+held_ended held (Ended k) = refl
+held_ended held (Regs full d t) = refl
+held_ended held (Poised d m b) = refl
+held_ended held (Switched d b m) = refl
+held_ended held (Drap reg phase) = refl
+
+pub held_consistent : (held : ℕ → Bool) (s : State) → IsConsistent s → IsConsistent (held_by held s)
+held_consistent held (Live d m b c) h = h
+held_consistent held (Ended k) h = h
+held_consistent held (Regs full d t) h = h
+held_consistent held (Poised d m b) h = h
+held_consistent held (Switched d b m) h = h
+held_consistent held (Drap reg phase) h = h
 
 initial_consistent : IsConsistent initial
 initial_consistent = record { fp = λ m e. absurd (let k : ⊥ = cc in k); aligned = λ e. absurd (let k : ⊥ = cc in k); saved = λ o e. absurd (let k : ⊥ = cc in k); same = λ e. omega arith }
@@ -89,7 +110,7 @@ module _ (p : Program) where
   pub set_kept : (q : ℕ) (s : State) → p.unchecked q ≡ false → p.hint q ≡ Some (Set s) → Kept p q s
   set_kept q s u h = (0, rw (u, h) refl)
 
-  is_entry : (q entry : ℕ) → Contains p.entries entry → Contains (entry_points p entry) q → is_at_entry p q ≡ true
+  pub is_entry : (q entry : ℕ) → Contains p.entries entry → Contains (entry_points p entry) q → is_at_entry p q ≡ true
   is_entry q entry c d = found (λ e. list_any (λ x. x == q) (entry_points p e)) p.entries entry c (found (λ x. x == q) (entry_points p entry) q d (eq-eqb q q refl))
 
   first_free : (q : ℕ) (h : Option HintState) → is_free h ≡ true → is_at_entry p q ≡ true → first_state p q h ≡ Some initial
@@ -127,28 +148,52 @@ module _ (p : Program) where
       let k = brought_kept a q s t point kept brings u f in
       subst (λ (z : State). Kept p q z) (sym (state_stable t k.0 (λ ne. acc _ _ _ _ (mismatch a q s t k.0 kept brings k.1 f ne)))) k.1
 
-  pub brings_along : (a : ℕ) (s : State) (e : Edge) (t : State) → Contains (edges_of p a) e → Contains (brought_along s (moved_at p a s) e.kind) t → Brings p a s e.to t
-  brings_along a s e t c d = in_flat_map (λ (e : Edge). brought_along s (moved_at p a s) e.kind) (filter (λ (x : Edge). x.to == e.to) (edges_of p a)) e t (in_filter (λ (x : Edge). x.to == e.to) (edges_of p a) e c (eq-eqb e.to e.to refl)) d
+  -- what comes along an edge is brought, with the copy of rsp that is held there
+  pub brings_along : (a : ℕ) (s : State) (e : Edge) (t : State) → Contains (edges_of p a) e → Contains (brought_along s (moved_at p a s) e.kind) t → Brings p a s e.to (held_by (p.held e.to) t)
+  brings_along a s e t c d =
+      let edges : List Edge = filter (λ (x : Edge). x.to == e.to) (edges_of p a) in
+      let kinds : Edge → List State = λ (x : Edge). brought_along s (moved_at p a s) x.kind in
+      in_map (held_by (p.held e.to)) (flat_map kinds edges) t (in_flat_map kinds edges e t (in_filter (λ (x : Edge). x.to == e.to) (edges_of p a) e c (eq-eqb e.to e.to refl)) d)
 
-  -- what is brought comes along an edge
-  pub brings_edge : (a q : ℕ) (s t : State) → Brings p a s q t → (e : Edge) × Contains (edges_of p a) e × (e.to ≡ q) × Contains (brought_along s (moved_at p a s) e.kind) t
+  -- what is brought came along an edge
+  pub record IsBroughtBy (a q : ℕ) (s t : State) : Type 0 where
+    pub edge : Edge
+    pub among : Contains (edges_of p a) edge
+    pub to : edge.to ≡ q
+    pub moved : State
+    pub along : Contains (brought_along s (moved_at p a s) edge.kind) moved
+    pub held : t ≡ held_by (p.held q) moved
+
+  pub brings_edge : (a q : ℕ) (s t : State) → Brings p a s q t → IsBroughtBy a q s t
   brings_edge a q s t c =
-      let r = from_flat_map (λ (e : Edge). brought_along s (moved_at p a s) e.kind) (filter (λ (x : Edge). x.to == q) (edges_of p a)) t c in
+      let edges : List Edge = filter (λ (x : Edge). x.to == q) (edges_of p a) in
+      let kinds : Edge → List State = λ (x : Edge). brought_along s (moved_at p a s) x.kind in
+      let m = from_map (held_by (p.held q)) (flat_map kinds edges) t c in
+      let r = from_flat_map kinds edges m.0 m.1 in
       let k = from_filter (λ (x : Edge). x.to == q) (edges_of p a) r.0 r.1 in
-      (r.0, k.0, eqb-true (r.0).to q k.1, r.2)
+      record { edge = r.0; among = k.0; to = eqb-true (r.0).to q k.1; moved = m.0; along = r.2; held = m.2 }
 
-  brings_moves : (a q : ℕ) (s t : State) → Brings p a s q t → (s ≡ t) ⊎ (moved_at p a s ≡ Ok t)
-  brings_moves a q s t c = let r = brings_edge a q s t c in brought_moves s (moved_at p a s) (r.0).kind t r.3
+  -- a RESTORE has the state of its SAVE, with the copy of rsp that is held there
+  restore_later : (n q r : ℕ) (s : State) → p.hint q ≡ Some Restore → p.save_of q ≡ Some r → (if p.unchecked q then None else later_state p (state_at p n) q (p.hint q)) ≡ Some s → (t : State) × (state_at p n r ≡ Some t) × (s ≡ held_by (p.held q) t)
+  restore_later n q r s h v e = go (state_at p n r) refl m
+    where
+      u : p.unchecked q ≡ false
+      u = checked_by (p.unchecked q) (later_state p (state_at p n) q (p.hint q)) s e
 
-  -- a RESTORE has the state of its SAVE
-  restore_later : (n q r : ℕ) (s : State) → p.hint q ≡ Some Restore → p.save_of q ≡ Some r → (if p.unchecked q then None else later_state p (state_at p n) q (p.hint q)) ≡ Some s → state_at p n r ≡ Some s
-  restore_later n q r s h v e =
-      let u = checked_by (p.unchecked q) (later_state p (state_at p n) q (p.hint q)) s e in
-      let k : later_state p (state_at p n) q (p.hint q) ≡ Some s = rw u at e in
-      let l : option_and_then (state_at p n) (p.save_of q) ≡ Some s = rw h at k in
-      rw v at l
+      k : later_state p (state_at p n) q (p.hint q) ≡ Some s
+      k = rw u at e
 
-  restore_from : (n q r : ℕ) (s : State) → p.hint q ≡ Some Restore → p.save_of q ≡ Some r → state_at p n q ≡ Some s → Kept p r s
+      l : option_map (held_by (p.held q)) (option_and_then (state_at p n) (p.save_of q)) ≡ Some s
+      l = rw h at k
+
+      m : option_map (held_by (p.held q)) (state_at p n r) ≡ Some s
+      m = rw v at l
+
+      go : (o : Option State) → state_at p n r ≡ o → option_map (held_by (p.held q)) o ≡ Some s → (t : State) × (state_at p n r ≡ Some t) × (s ≡ held_by (p.held q) t)
+      go None is e = absurd (let k : ⊥ = cc in k)
+      go (Some t) is e = (t, is, let k : s ≡ held_by (p.held q) t = cc in k)
+
+  restore_from : (n q r : ℕ) (s : State) → p.hint q ≡ Some Restore → p.save_of q ≡ Some r → state_at p n q ≡ Some s → (t : State) × Kept p r t × (s ≡ held_by (p.held q) t)
   restore_from zero q r s h v e =
       let u = checked_by (p.unchecked q) (first_state p q (p.hint q)) s e in
       let k : first_state p q (p.hint q) ≡ Some s = rw u at e in
@@ -156,16 +201,18 @@ module _ (p : Program) where
       absurd (let k : ⊥ = cc in k)
   restore_from (suc n) q r s h v e = go (state_at p n q) refl e (λ t k. restore_from n q r t h v k)
     where
-      go : (o : Option State) → state_at p n q ≡ o → kept_or o (if p.unchecked q then None else later_state p (state_at p n) q (p.hint q)) ≡ Some s → ((t : State) → state_at p n q ≡ Some t → Kept p r t) → Kept p r s
-      go None k e f = (n, restore_later n q r s h v e)
+      go : (o : Option State) → state_at p n q ≡ o → kept_or o (if p.unchecked q then None else later_state p (state_at p n) q (p.hint q)) ≡ Some s → ((t : State) → state_at p n q ≡ Some t → (u : State) × Kept p r u × (t ≡ held_by (p.held q) u)) → (t : State) × Kept p r t × (s ≡ held_by (p.held q) t)
+      go None k e f = let m = restore_later n q r s h v e in (m.0, (n, m.1), m.2)
       go (Some t) k e f = f s (k ∙ e)
 
-  pub restored : (q r : ℕ) (s : State) → p.hint q ≡ Some Restore → p.save_of q ≡ Some r → p.unchecked q ≡ false → Kept p r s → Kept p q s
+  pub restored : (q r : ℕ) (s : State) → p.hint q ≡ Some Restore → p.save_of q ≡ Some r → p.unchecked q ≡ false → Kept p r s → Kept p q (held_by (p.held q) s)
   restored q r s h v u (n, e) =
-      let k : (if p.unchecked q then None else later_state p (state_at p n) q (p.hint q)) ≡ Some s = rw (u, h, v) e in
-      let w = kept_or_some (state_at p n q) s in
+      let k : (if p.unchecked q then None else later_state p (state_at p n) q (p.hint q)) ≡ Some (held_by (p.held q) s) = rw (u, h, v, e) refl in
+      let w = kept_or_some (state_at p n q) (held_by (p.held q) s) in
       let next : state_at p (suc n) q ≡ Some w.0 = ap (kept_or (state_at p n q)) k ∙ w.1 in
-      subst (λ (z : State). Kept p q z) (kept_is_one p r w.0 s (restore_from (suc n) q r w.0 h v next) (n, e)) (suc n, next)
+      let from = restore_from (suc n) q r w.0 h v next in
+      let same : w.0 ≡ held_by (p.held q) s = from.2 ∙ ap (held_by (p.held q)) (kept_is_one p r from.0 s from.1 (n, e)) in
+      subst (λ (z : State). Kept p q z) same (suc n, next)
 
   -- kept states are consistent
   module _ (is : IsProgram p) (keeps : MoveIsConsistent) where
@@ -186,12 +233,15 @@ module _ (p : Program) where
     brought_consistent : (n q : ℕ) (s : State) → ((r : ℕ) (t : State) → IsPoint p r → state_at p n r ≡ Some t → IsConsistent t) → least (brought p (state_at p n) q) ≡ Some s → IsConsistent s
     brought_consistent n q s ih e = from (from_flat_map (λ a. brought_from p a (state_at p n a) q) (below p.count) s (least_member (brought p (state_at p n) q) s e))
       where
-        after : (a : ℕ) (t : State) → IsPoint p a → state_at p n a ≡ Some t → moved_at p a t ≡ Ok s → IsConsistent s
-        after a t point h moves = elim (moved_at_kept (p.loose a) (move t (p.insn a).op) s moves) [ inl e ↦ (keeps t s (p.insn a).op (ih a t point h) e).0 | inr e ↦ subst IsConsistent (sym e) tt ]
+        after : (a : ℕ) (t u : State) → IsPoint p a → state_at p n a ≡ Some t → moved_at p a t ≡ Ok u → IsConsistent u
+        after a t u point h moves = elim (moved_at_kept p a t u moves) [ inl e ↦ (keeps t u (p.insn a).op (ih a t point h) e).0 | inr e ↦ subst IsConsistent (sym e) tt ]
+
+        brings : (a : ℕ) (t : State) → IsPoint p a → state_at p n a ≡ Some t → IsBroughtBy a q t s → IsConsistent s
+        brings a t point h b = subst IsConsistent (sym b.held) (held_consistent (p.held q) b.moved (elim (brought_moves t (moved_at p a t) b.edge.kind b.moved b.along) [ inl same ↦ subst IsConsistent same (ih a t point h) | inr moves ↦ after a t b.moved point h moves ]))
 
         one : (a : ℕ) → a ≡ a → IsPoint p a → (o : Option State) → state_at p n a ≡ o → Contains (brought_from p a o q) s → IsConsistent s
         one a k point None h c = nowhere s c
-        one a k point (Some t) h c = elim (brings_moves a q t s c) [ inl same ↦ subst IsConsistent same (ih a t point h) | inr moves ↦ after a t point h moves ]
+        one a k point (Some t) h c = brings a t point h (brings_edge a q t s c)
 
         from : (a : ℕ) × Contains (below p.count) a × Contains (brought_from p a (state_at p n a) q) s → IsConsistent s
         from r = one r.0 refl (from_below p.count r.0 r.1) (state_at p n r.0) refl r.2
@@ -200,9 +250,13 @@ module _ (p : Program) where
     later_consistent n q s (Some (Set t)) point ih e = absurd (let k : ⊥ = cc in k)
     later_consistent n q s (Some Restore) point ih e = saved (p.save_of q) refl e
       where
-        saved : (o : Option ℕ) → p.save_of q ≡ o → option_and_then (state_at p n) o ≡ Some s → IsConsistent s
+        there_is : (r : ℕ) → p.save_of q ≡ Some r → (o : Option State) → state_at p n r ≡ o → option_map (held_by (p.held q)) o ≡ Some s → IsConsistent s
+        there_is r v None h e = absurd (let k : ⊥ = cc in k)
+        there_is r v (Some t) h e = subst IsConsistent (let k : held_by (p.held q) t ≡ s = cc in k) (held_consistent (p.held q) t (ih r t (is.saves q r point v) h))
+
+        saved : (o : Option ℕ) → p.save_of q ≡ o → option_map (held_by (p.held q)) (option_and_then (state_at p n) o) ≡ Some s → IsConsistent s
         saved None v e = absurd (let k : ⊥ = cc in k)
-        saved (Some r) v e = ih r s (is.saves q r point v) e
+        saved (Some r) v e = there_is r v (state_at p n r) refl e
     later_consistent n q s (Some Save) point ih e = brought_consistent n q s ih e
     later_consistent n q s None point ih e = brought_consistent n q s ih e
 

@@ -102,3 +102,7 @@ all_right P xs ys h = all_of P ys (λ x c. All-contains P (xs ++ ys) x h (Contai
 pub in_map : {X Y : Type 0} (f : X → Y) (xs : List X) (x : X) → Contains xs x → Contains (map f xs) (f x)
 in_map f [] x c = nowhere x c
 in_map {X} f (y ∷ xs) x c = elim (cases y xs x c) [ inl e ↦ subst (λ (z : X). Contains (f z ∷ map f xs) (f x)) (sym e) (here (f x) (map f xs)) | inr d ↦ there (f y) (map f xs) (f x) (in_map f xs x d) ]
+
+pub from_map : {X Y : Type 0} (f : X → Y) (xs : List X) (y : Y) → Contains (map f xs) y → (x : X) × Contains xs x × (y ≡ f x)
+from_map f [] y c = nowhere y c
+from_map {X} {Y} f (z ∷ xs) y c = elim (cases (f z) (map f xs) y c) [ inl e ↦ (z, here z xs, sym e) | inr d ↦ let r = from_map f xs y d in (r.0, there z xs r.0 r.1, r.2) ]

@@ -3,23 +3,23 @@ use Rattle.std.proofs.Common.{◌≡◌, ℕ, ◌&&◌, ◌||◌, not, Bool, tru
 use Rattle.std.specs.List.{list_any, list_all}
 use Rattle.std.proofs.lemmas.Bool.{or_parts}
 use Rattle.operation_defs.specs.declared.op.Op.{Op}
-use Rattle.operation_defs.specs.declared.op.Op.TheVariants.{SubSp, SpReg, RetImm}
+use Rattle.operation_defs.specs.declared.op.Op.TheVariants.{AndDrap, SubSp, SpReg, BackSp, CellSp, RetImm}
 use Rattle.machine_defs.specs.declared.flow.Edge.{Edge}
 use Rattle.machine_defs.specs.declared.flow.EdgeKind.{EdgeKind}
 use Rattle.machine_defs.specs.declared.flow.EdgeKind.TheVariants.{Next, Taken, Fixup, Table, Sibling}
 use Rattle.state_defs.specs.declared.state.EndKind.{EndKind}
 use Rattle.state_defs.specs.declared.state.State.{State}
-use Rattle.state_defs.specs.declared.state.State.TheVariants.{Live, Ended, Regs}
+use Rattle.state_defs.specs.declared.state.State.TheVariants.{Live, Ended, Regs, Poised, Switched, Drap}
 use Rattle.state_defs.specs.declared.state.HintState.{HintState}
 use Rattle.state_defs.specs.declared.state.HintState.TheVariants.{Set, Save, Restore}
-use Rattle.state_defs.specs.Frame.{is_of_call, Frame}
-use Rattle.state_defs.specs.State.{ended_by, MeansTop}
-use Rattle.state_defs.specs.Rules.{is_initial, return_rule, sibling_rule, is_followed}
+use Rattle.state_defs.specs.Frame.{Held, HoldsNothing, HoldsCell, HoldsBp, is_of_call, Frame}
+use Rattle.state_defs.specs.State.{ended_by, View, MeansTop}
+use Rattle.state_defs.specs.Rules.{is_initial, exit_rule, return_rule, sibling_rule, is_followed}
 use Rattle.machine_defs.specs.Program.{Program, entry_points, is_call_op, edge, is_local}
 use Rattle.machine_defs.specs.Kept.{can_go, edges_of, is_free}
 use Rattle.machine_defs.specs.Ways.{is_fixup, is_next, is_sibling, is_before_hint, is_call_hint, MayCall, leads_out, drops_bytes, may_leave}
 use Rattle.machine_defs.specs.Machine.{Standing}
-use Rattle.machine_defs.specs.Step.{as_any_write, op_at, is_in_interrupt, ends_run}
+use Rattle.machine_defs.specs.Step.{as_any_write, where_ended, op_by, op_at, is_in_interrupt, ends_run}
 use Rattle.unwinding_law.proofs.Lists.{each_passes, in_filter}
 
 -- along a local edge, to where states come in along edges, no hint follows right behind
@@ -45,22 +45,29 @@ no_hint_behind p a q kind l c can free =
     not_before (list_any (λ e. not (is_fixup e.kind)) (edges_of p a)) (list_all (λ e. is_fixup e.kind || not (is_free (p.hint e.to))) (edges_of p a))
     (λ all. untold (is_fixup kind) (is_free (p.hint q)) (local_no_fixup kind l) free (each_passes (λ e. is_fixup e.kind || not (is_free (p.hint e.to))) (edges_of p a) (edge q kind) all (in_filter (λ (e : Edge). can_go p a e.kind) (p.goes a) (edge q kind) c can)))
 
--- what makes room is no call, as whatever it acts
+-- what acts as another operation is no call
+any_write_no_call : (held : Held) (op : Op) → is_call_op (as_any_write held op) ≡ false → is_call_op op ≡ false
+any_write_no_call held SubSp h = refl
+any_write_no_call held (SpReg reg) h = refl
+any_write_no_call held (BackSp reg) h = refl
+any_write_no_call held _ h = h
+
+ended_no_call : (op : Op) → is_call_op (where_ended op) ≡ false → is_call_op op ≡ false
+ended_no_call (CellSp reg) h = refl
+ended_no_call (AndDrap reg mask) h = refl
+ended_no_call _ h = h
+
 pub acts_no_call : (p : Program) (s : Standing) → is_call_op (op_at p s) ≡ false → is_call_op (p.insn s.point).op ≡ false
-acts_no_call p s h = go (is_some s.ended || is_before_hint p s.point) (p.insn s.point).op h
+acts_no_call p s h = go (is_some s.ended) (is_before_hint p s.point) s.core.held (p.insn s.point).op h
   where
-    go : (b : Bool) (op : Op) → is_call_op (if b then as_any_write op else op) ≡ false → is_call_op op ≡ false
-    go false op h = h
-    go true SubSp h = refl
-    go true SpReg h = refl
-    go true _ h = h
+    go : (ended before : Bool) (held : Held) (op : Op) → is_call_op (op_by ended before held op) ≡ false → is_call_op op ≡ false
+    go true before held op h = any_write_no_call held op (ended_no_call (as_any_write held op) h)
+    go false true held op h = any_write_no_call held op h
+    go false false held op h = h
 
 -- where the stack hasn't ended, and no hint follows right behind, an operation acts as it is
 pub acts_as_it_is : (p : Program) (s : Standing) → s.ended ≡ None → is_before_hint p s.point ≡ false → op_at p s ≡ (p.insn s.point).op
-acts_as_it_is p s live h = ap (λ (b : Bool). if b then as_any_write (p.insn s.point).op else (p.insn s.point).op) both
-  where
-    both : (is_some s.ended || is_before_hint p s.point) ≡ false
-    both = rw (live, h) refl
+acts_as_it_is p s live h = rw (live, h) refl
 
 -- a return that drops bytes names nothing, so it may not leave
 pub dropping_stays : (p : Program) (a : ℕ) → (p.insn a).op ≡ RetImm → p.names a ≡ None → may_leave p a ≡ false
@@ -107,21 +114,23 @@ not_both : (b : Bool) → b ≡ false → not b ≡ false → ⊥
 not_both true e h = let k : ⊥ = cc in k
 not_both false e h = let k : ⊥ = cc in k
 
-pub allows : (a : State) (rsp rbp : ℕ) (fs : List Frame) → ended_by a ≡ None → MeansTop a rsp rbp fs → is_in_interrupt fs ≡ false → Allows a
-allows (Live d m b) rsp rbp fs e means of_call = record {
-  return = λ r. other_rule (is_initial (Live d m b)) 5 (λ k. let z : ⊥ = cc in z) r;
-  jump = λ r. other_rule (is_initial (Live d m b)) 6 (λ k. let z : ⊥ = cc in z) r;
-}
-allows (Ended k) rsp rbp fs e means of_call = absurd (let z : ⊥ = cc in z)
-allows (Regs full d) rsp rbp [] e means of_call = absurd means
-allows (Regs true d) rsp rbp (f ∷ fs) e means of_call = let k : is_of_call f.slot ≡ false = ap is_of_call means.slot in absurd (not_both (is_of_call f.slot) k of_call)
-allows (Regs false d) rsp rbp (f ∷ fs) e means of_call = let k : is_of_call f.slot ≡ false = ap is_of_call means.slot in absurd (not_both (is_of_call f.slot) k of_call)
+allows_by : (a : State) → ((rule : ℕ) → (rule ≡ 15 → ⊥) → exit_rule rule a ≡ Some 15 → ⊥) → Allows a
+allows_by a h = record { return = λ r. h 5 (λ k. let z : ⊥ = cc in z) r; jump = λ r. h 6 (λ k. let z : ⊥ = cc in z) r }
+
+pub allows : (a : State) (v : View) (fs : List Frame) → ended_by a ≡ None → MeansTop a v fs → is_in_interrupt fs ≡ false → Allows a
+allows (Ended k) v fs e means of_call = absurd (let z : ⊥ = cc in z)
+allows (Regs full d t) v [] e means of_call = absurd means
+allows (Regs true d t) v (f ∷ fs) e means of_call = let k : is_of_call f.slot ≡ false = ap is_of_call means.slot in absurd (not_both (is_of_call f.slot) k of_call)
+allows (Regs false d t) v (f ∷ fs) e means of_call = let k : is_of_call f.slot ≡ false = ap is_of_call means.slot in absurd (not_both (is_of_call f.slot) k of_call)
+allows (Live d m b c) v fs e means of_call = allows_by (Live d m b c) (λ rule k r. other_rule (is_initial (Live d m b c)) rule k r)
+allows (Poised d m b) v fs e means of_call = allows_by (Poised d m b) (λ rule k r. other_rule false rule k r)
+allows (Switched d b m) v fs e means of_call = allows_by (Switched d b m) (λ rule k r. other_rule false rule k r)
+allows (Drap reg phase) v fs e means of_call = allows_by (Drap reg phase) (λ rule k r. other_rule false rule k r)
 
 -- a state that hasn't ended is followed
 pub is_followed_live : (a : State) → ended_by a ≡ None → is_followed a ≡ true
-is_followed_live (Live d m b) e = refl
 is_followed_live (Ended k) e = absurd (let z : ⊥ = cc in z)
-is_followed_live (Regs full d) e = refl
+is_followed_live _ e = refl
 
 -- where control comes to what code of no function may call, a hint tells everything
 call_hint_tells : (h : Option HintState) → is_call_hint h ≡ true → is_free h ≡ false
