@@ -14,23 +14,20 @@ use Rattle.state_defs.specs.declared.state.State.TheVariants.{Live, Ended, Regs,
 use Rattle.state_defs.specs.Address.{up}
 use Rattle.state_defs.specs.Region.{Memory, Stack, Holds}
 use Rattle.state_defs.specs.Frame.{Registers, Held, HoldsNothing, Frame, Mark, Protected, protected, has_cell, cells, listed, AreKept, LieAbove}
-use Rattle.state_defs.specs.Effect.{Core, acted, IsInStack}
+use Rattle.state_defs.specs.Effect.{Core, IsInStack}
 use Rattle.state_defs.specs.State.{initial, ended_by, held_by, View, view_of, view_below, MeansTop}
-use Rattle.state_defs.specs.Rules.{is_poised, may_call}
 use Rattle.state_defs.specs.Sound.{HasCopied}
-use Rattle.machine_defs.specs.Program.{Program, IsPoint, entry_points, is_call, is_given_back, edge}
+use Rattle.machine_defs.specs.Program.{Program, IsPoint, entry_points, is_call, edge}
 use Rattle.machine_defs.specs.Machine.{Bases, Standing, At, return_address}
 use Rattle.machine_defs.specs.Step.{interrupt_address, ends_run, LeavesMemory, Returns, JumpsTo, sibling, indirect, TailCalls, ReturnsFromInterrupt, ReturnsFromBreakpoint}
 use Rattle.machine_defs.specs.MayReturn.{MayReturn, target_may_return}
 use Rattle.machine_defs.specs.MayReturn as may
-use Rattle.machine_defs.specs.Kept.{Kept, is_free}
 use Rattle.machine_defs.specs.Broken.{IsAccepted, LeavesByJump}
 use Rattle.machine_defs.specs.Broken as broken
 use Rattle.machine_defs.specs.IsProgram.{IsProgram}
 use Rattle.machine_defs.specs.Law.{CallReturns, AreMarksKept, IsInnerFrame, AreFrames, HasRunInvariant, HasFrameInvariant, IsInOrder}
 use Rattle.machine_defs.specs.Law as law
 use Rattle.stack_state.proofs.Kept.{spared_kept}
-use Rattle.stack_state.proofs.Pushes.{rsp_below_end}
 use Rattle.stack_state.proofs.Memory.{stack_below_end}
 use Rattle.unwinding_law.proofs.Lists.{all_right}
 use Rattle.unwinding_law.proofs.Numbers.{up_down}

@@ -1,5 +1,5 @@
 -- A register that is stored as a copy of rbp was made that right before.
-use Rattle.std.proofs.Common.{◌≡◌, ◌≢◌, ◌⊎◌, ℕ, Bool, true, false, not, if◌then◌else◌, Option, Some, None, Contains, refl, sym, ap, ◌∙◌, inl, inr}
+use Rattle.std.proofs.Common.{◌≡◌, ◌⊎◌, ℕ, Bool, true, false, not, if◌then◌else◌, Some, Contains, refl, ap, inl, inr}
 use Rattle.operation_defs.specs.declared.op.Op.{Op}
 use Rattle.operation_defs.specs.declared.op.Op.TheVariants.{Call, CallInd, CopyBp}
 use Rattle.operation_defs.specs.Made.{follows, may_write}

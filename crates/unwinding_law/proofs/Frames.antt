@@ -5,8 +5,7 @@ use Rattle.operation_defs.specs.declared.op.Op.TheVariants.{Int3}
 use Rattle.state_defs.specs.declared.state.State.{State}
 use Rattle.state_defs.specs.declared.state.State.TheVariants.{Live, Ended, Regs, Poised, Switched, Drap}
 use Rattle.state_defs.specs.Address.{down}
-use Rattle.state_defs.specs.Region.{Stack}
-use Rattle.state_defs.specs.Frame.{Slot, Told, Protected, Frame, Keeping, Mark, cells, listed, IsAboveIn, LieAbove, top_keeping}
+use Rattle.state_defs.specs.Frame.{Slot, Told, Protected, Frame, Keeping, Mark, listed, IsAboveIn, LieAbove, top_keeping}
 use Rattle.state_defs.specs.State.{ended_by, View, view_at, Means, MeansTop}
 use Rattle.machine_defs.specs.Program.{Program, IsPoint, is_call}
 use Rattle.machine_defs.specs.Machine.{Bases, Standing, IsOutside, return_address}

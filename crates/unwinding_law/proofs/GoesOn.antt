@@ -1,9 +1,9 @@
 -- An instruction that goes on in its function.
-use Rattle.std.proofs.Common.{◌≡◌, ℕ, ◌≤◌, ◌⊎◌, ◌&&◌, not, Bool, true, false, if◌then◌else◌, List, Option, Some, None, is_some, Ok, Contains, All, refl, sym, ap, ◌∙◌, subst, inl, inr}
+use Rattle.std.proofs.Common.{◌≡◌, ℕ, ◌≤◌, ◌&&◌, not, Bool, true, false, if◌then◌else◌, List, Option, Some, None, is_some, Ok, All, refl, sym, ap, ◌∙◌, subst, inl, inr}
 use Rattle.std.proofs.lemmas.List.Elements.{All-head}
 use Rattle.operation_defs.specs.declared.op.Op.{Op}
 use Rattle.operation_defs.specs.declared.op.Op.TheVariants.{CopyBp}
-use Rattle.operation_defs.specs.Made.{follows, may_write}
+use Rattle.operation_defs.specs.Made.{may_write}
 use Rattle.machine_defs.specs.declared.flow.EdgeKind.TheVariants.{Next}
 use Rattle.state_defs.specs.declared.state.EndKind.{EndKind}
 use Rattle.state_defs.specs.declared.state.EndKind.TheVariants.{Undefined}
@@ -15,7 +15,7 @@ use Rattle.state_defs.specs.State.{ended_by, held_by, view_of, IsConsistent, Mea
 use Rattle.state_defs.specs.Move.{move}
 use Rattle.state_defs.specs.Rules.{is_poised}
 use Rattle.state_defs.specs.Sound.{IsTold, HoldsBehind, HasCopied, MoveIsSound, MoveIsConsistent}
-use Rattle.machine_defs.specs.Program.{Program, IsPoint, is_call, is_call_op, is_given_back, edge}
+use Rattle.machine_defs.specs.Program.{Program, IsPoint, is_call, is_call_op, edge}
 use Rattle.machine_defs.specs.Machine.{Bases, Standing}
 use Rattle.machine_defs.specs.Ways.{is_before_hint}
 use Rattle.machine_defs.specs.Step.{op_by, op_at, EndedBehind, is_firm, is_lost, is_kept, GoesOn}

@@ -1,15 +1,13 @@
 -- A state that comes to a point is in order once the hint there has done its work.
-use Rattle.std.proofs.Common.{◌≡◌, ℕ, ◌≤◌, Bool, true, false, List, [], ◌∷◌, Option, Some, None, refl, sym, ap, ◌∙◌, subst}
+use Rattle.std.proofs.Common.{◌≡◌, ℕ, Bool, true, false, List, [], ◌∷◌, Option, Some, None, refl, sym, ap, ◌∙◌, subst}
 use Rattle.std.proofs.lemmas.List.Elements.{All-nil}
-use Rattle.operation_defs.specs.declared.op.DrapRegister.{DrapRegister}
-use Rattle.operation_defs.specs.Made.{register_of}
 use Rattle.state_defs.specs.declared.state.State.{State}
 use Rattle.state_defs.specs.declared.state.State.TheVariants.{Live, Ended, Regs, Poised, Switched, Drap}
 use Rattle.state_defs.specs.declared.state.HintState.{HintState}
 use Rattle.state_defs.specs.declared.state.HintState.TheVariants.{Set, Save, Restore}
 use Rattle.state_defs.specs.Address.{shifted}
 use Rattle.state_defs.specs.Region.{Memory, Stack, Holds}
-use Rattle.state_defs.specs.Frame.{Held, Registers, Slot, is_of_call, Frame, Mark, Keeping, AreKept, IsAboveIn, with_top_slot, is_top_told_in}
+use Rattle.state_defs.specs.Frame.{Slot, is_of_call, Frame, Mark, Keeping, AreKept, IsAboveIn, with_top_slot}
 use Rattle.state_defs.specs.Effect.{Core, IsInStack}
 use Rattle.state_defs.specs.State.{ended_by, held_by, View, view_of, view_at, MeansTop}
 use Rattle.machine_defs.specs.Program.{Program, IsPoint}

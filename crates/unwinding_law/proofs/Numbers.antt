@@ -1,5 +1,5 @@
 -- Sums of addresses that don't wrap.
-use Rattle.std.proofs.Common.{◌≡◌, ℕ, ◌+◌, ◌-◌, ◌^◌, ◌<◌, ◌≤◌, arith}
+use Rattle.std.proofs.Common.{◌≡◌, ℕ, ◌+◌, ◌-◌, ◌^◌, ◌<◌, arith}
 use Rattle.state_defs.specs.Address.{up, down}
 
 pub up_down : (x : ℕ) → x < 2 ^ 64 → up (down x 8) 8 ≡ x

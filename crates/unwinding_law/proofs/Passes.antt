@@ -1,17 +1,16 @@
 -- A fault, and a call of code outside: the frames stay.
-use Rattle.std.proofs.Common.{◌≡◌, ℕ, Bool, true, false, List, Option, refl, sym, ap, ◌∙◌, subst}
-use Rattle.operation_defs.specs.declared.op.Op.TheVariants.{CopyBp}
-use Rattle.machine_defs.specs.declared.flow.EdgeKind.TheVariants.{Next, Fixup}
+use Rattle.std.proofs.Common.{◌≡◌, ℕ, true, false, Option, refl, sym, ap, ◌∙◌, subst}
+use Rattle.machine_defs.specs.declared.flow.EdgeKind.TheVariants.{Fixup}
 use Rattle.state_defs.specs.declared.state.EndKind.{EndKind}
 use Rattle.state_defs.specs.declared.state.Phase.TheVariants.{Bare, Pushed, Framed, Homed}
 use Rattle.state_defs.specs.declared.state.State.{State}
-use Rattle.state_defs.specs.declared.state.State.TheVariants.{Live, Ended, Regs, Poised, Switched, Drap}
-use Rattle.state_defs.specs.Frame.{HoldsNothing, Frame, listed, AreKept}
+use Rattle.state_defs.specs.declared.state.State.TheVariants.{Poised, Drap}
+use Rattle.state_defs.specs.Frame.{HoldsNothing, listed, AreKept}
 use Rattle.state_defs.specs.Effect.{Core, StoresAlone}
 use Rattle.state_defs.specs.State.{held_by, view_of, MeansTop}
 use Rattle.state_defs.specs.Rules.{is_poised, may_fault, may_call}
 use Rattle.state_defs.specs.Sound.{HasCopied}
-use Rattle.machine_defs.specs.Program.{Program, IsPoint, is_call_op, is_given_back, is_local, loses, edge}
+use Rattle.machine_defs.specs.Program.{Program, IsPoint, edge}
 use Rattle.machine_defs.specs.Machine.{Bases, Standing}
 use Rattle.machine_defs.specs.Step.{SameLevel, Faults, CallsOut}
 use Rattle.machine_defs.specs.MayReturn as may

@@ -1,14 +1,13 @@
 -- A frame of a breakpoint that a hint settles stays in order: it goes back to what follows the breakpoint, as an interrupt there.
-use Rattle.std.proofs.Common.{◌≡◌, ℕ, ◌+◌, ◌≤◌, ◌||◌, Bool, true, false, if◌then◌else◌, List, [], ◌∷◌, Option, Some, None, MatchBool, Contains, All, refl, sym, ap, ◌∙◌, subst, arith}
+use Rattle.std.proofs.Common.{◌≡◌, ℕ, ◌≤◌, ◌||◌, Bool, true, false, if◌then◌else◌, List, ◌∷◌, Option, Some, None, MatchBool, Contains, All, refl, sym, ◌∙◌, subst}
 use Rattle.std.proofs.lemmas.List.Elements.{All-cons, All-head, All-tail}
-use Rattle.ot_base.specs.declared.place.Place.{Place}
 use Rattle.operation_defs.specs.declared.op.Op.TheVariants.{CopyBp, Int3}
 use Rattle.machine_defs.specs.declared.flow.EdgeKind.TheVariants.{Next}
 use Rattle.state_defs.specs.Address.{down}
 use Rattle.state_defs.specs.Frame.{HoldsNothing, Frame, Keeping, Mark, is_of_call, keeps, cells}
 use Rattle.state_defs.specs.State.{view_below, view_at, MeansTop}
 use Rattle.machine_defs.specs.Program.{Program, IsPoint, is_call, edge}
-use Rattle.machine_defs.specs.Machine.{Bases, Standing, IsOutside, address_of, point_address, return_address}
+use Rattle.machine_defs.specs.Machine.{Bases, Standing, IsOutside, point_address, return_address}
 use Rattle.machine_defs.specs.Hint.{IsInInterrupt, Settles, as_it_is, outermost, inner}
 use Rattle.machine_defs.specs.Step.{interrupt_address}
 use Rattle.machine_defs.specs.MayReturn as may
@@ -32,17 +31,10 @@ settled_to behind f = record f { trap = false; call = Some behind; held = HoldsN
 pub settled_in_interrupt : (p : Program) (bases : Bases) (trap : Bool) (fs gs : List Frame) → Settles p bases trap fs gs → IsInInterrupt fs → IsInInterrupt gs
 settled_in_interrupt p bases trap fs gs (as_it_is t f rest e) h = h
 settled_in_interrupt p bases trap fs gs (outermost f rest e call out) h = h
-settled_in_interrupt p bases trap fs gs (inner f rest call behind e called passed c free) h = h
+settled_in_interrupt p bases trap fs gs (inner f rest call behind e called passed c there free) h = h
 
 module _ (p : Program) (bases : Bases) (is : IsProgram p) (acc : IsAccepted p) where
-  -- what follows a breakpoint stands right behind it
-  behind_is : (call behind : ℕ) → IsPoint p call → (p.insn call).op ≡ Int3 → p.dead_end call ≡ false → Contains (p.after call) behind → return_address p bases call ≡ point_address p bases behind
-  behind_is call behind point op passed c =
-      let e = is.behind_breakpoint call behind point op passed c in
-      let there : address_of bases (p.address behind) ≡ bases (p.address call).sec + ((p.address call).off + (p.insn call).len) = ap (λ (x : Place). address_of bases x) e in
-      omega (arith, there)
-
-  module _ (q call behind : ℕ) (f : Frame) (rest : List Frame) (kind : is_of_call f.slot ≡ false) (trap : f.trap ≡ true) (passed : p.dead_end call ≡ false) (c : Contains (p.after call) behind) (free : is_free (p.hint behind) ≡ true) (h : IsInnerFrame p bases q call f rest) where
+  module _ (q call behind : ℕ) (f : Frame) (rest : List Frame) (kind : is_of_call f.slot ≡ false) (trap : f.trap ≡ true) (passed : p.dead_end call ≡ false) (c : Contains (p.after call) behind) (free : is_free (p.hint behind) ≡ true) (there : f.ra ≡ point_address p bases behind) (h : IsInnerFrame p bases q call f rest) where
     goes_back : (f.ra ≡ interrupt_address p bases f.trap call) × (f.trap ≡ true → (p.insn call).op ≡ Int3)
     goes_back = subst (λ (b : Bool). MatchBool b ((f.ra ≡ return_address p bases call) × (is_call (p.role call) ≡ true)) ((f.ra ≡ interrupt_address p bases f.trap call) × (f.trap ≡ true → (p.insn call).op ≡ Int3))) kind h.goes_back
 
@@ -59,7 +51,6 @@ module _ (p : Program) (bases : Bases) (is : IsProgram p) (acc : IsAccepted p) w
     settled_inner below =
         let k = h.call_kept in
         let past = past_breakpoint p is acc call behind k.state h.point k.kept op next free in
-        let ra : f.ra ≡ interrupt_address p bases false behind = goes_back.0 ∙ ap (λ (b : Bool). interrupt_address p bases b call) trap ∙ behind_is call behind h.point op passed c in
         law.inner q behind (settled_to behind f) rest refl (record {
           point = point;
           call_kept = record {
@@ -72,7 +63,7 @@ module _ (p : Program) (bases : Bases) (is : IsProgram p) (acc : IsAccepted p) w
           };
           comes_back = λ e. absurd (let z : true ≡ false = sym e ∙ kind in let y : ⊥ = cc in y);
           mark_kept = h.mark_kept;
-          goes_back = subst (λ (b : Bool). MatchBool b ((f.ra ≡ return_address p bases behind) × (is_call (p.role behind) ≡ true)) ((f.ra ≡ interrupt_address p bases false behind) × (false ≡ true → (p.insn behind).op ≡ Int3))) (sym kind) (ra, λ e. absurd (let y : ⊥ = cc in y));
+          goes_back = subst (λ (b : Bool). MatchBool b ((f.ra ≡ return_address p bases behind) × (is_call (p.role behind) ≡ true)) ((f.ra ≡ interrupt_address p bases false behind) × (false ≡ true → (p.insn behind).op ≡ Int3))) (sym kind) (there, λ e. absurd (let y : ⊥ = cc in y));
         }) (frames_elsewhere p bases call behind rest (stays_out p bases is call behind h.point point (λ m. may.goes_on call (edge behind Next) (breakpoint_role p is acc call h.point op) next m)) below)
 
   settled_frames : (q : ℕ) (trap : Bool) (fs gs : List Frame) → Settles p bases trap fs gs → IsInInterrupt fs → AreFrames p bases q fs → AreFrames p bases q gs
@@ -85,14 +76,14 @@ module _ (p : Program) (bases : Bases) (is : IsProgram p) (acc : IsAccepted p) w
       go : AreFrames p bases q (f ∷ rest) → AreFrames p bases q (record f { trap = false } ∷ rest)
       go (law.outermost at g others none h) = law.outermost q (record f { trap = false }) rest none (record { last = h.last; ended = h.ended; goes_out = outside })
       go (law.inner at from g others called h below) = absurd (let z : None ≡ Some from = sym call ∙ called in let y : ⊥ = cc in y)
-  settled_frames q trap fs gs (inner f rest call behind e called passed c free) kind h = go h
+  settled_frames q trap fs gs (inner f rest call behind e called passed c there free) kind h = go h
     where
       go : AreFrames p bases q (f ∷ rest) → AreFrames p bases q (settled_to behind f ∷ rest)
       go (law.outermost at g others none h) = absurd (let z : None ≡ Some call = sym none ∙ called in let y : ⊥ = cc in y)
       go (law.inner at from g others from_is h below) =
           let o : Some from ≡ Some call = sym from_is ∙ called in
           let k : from ≡ call = cc in
-          settled_inner q call behind f rest kind e passed c (free behind c) (subst (λ (x : ℕ). IsInnerFrame p bases q x f rest) k h) (subst (λ (x : ℕ). AreFrames p bases x rest) k below)
+          settled_inner q call behind f rest kind e passed c (free behind c) there (subst (λ (x : ℕ). IsInnerFrame p bases q x f rest) k h) (subst (λ (x : ℕ). AreFrames p bases x rest) k below)
 
   settled_marks : (mark : Option Mark) (trap : Bool) (fs gs : List Frame) → Settles p bases trap fs gs → AreMarksKept p mark fs → AreMarksKept p mark gs
   settled_marks None trap fs gs s h = tt
@@ -102,18 +93,18 @@ module _ (p : Program) (bases : Bases) (is : IsProgram p) (acc : IsAccepted p) w
       go None said fs gs s k = k
       go (Some keeping) said fs gs (as_it_is t f rest e) k = k
       go (Some keeping) said fs gs (outermost f rest e call out) k = k
-      go (Some keeping) said fs gs (inner f rest call behind e called passed c free) k = means_origin (Some behind) HoldsNothing h.state (view_at m) (keeps keeping f) rest k
+      go (Some keeping) said fs gs (inner f rest call behind e called passed c there free) k = means_origin (Some behind) HoldsNothing h.state (view_at m) (keeps keeping f) rest k
 
   settled_below : (trap : Bool) (fs gs : List Frame) → Settles p bases trap fs gs → All (λ f. f.cfa ≤ f.stack.hi) fs → All (λ f. f.cfa ≤ f.stack.hi) gs
   settled_below trap fs gs (as_it_is t f rest e) h = h
   settled_below trap fs gs (outermost f rest e call out) h = All-cons (λ f. f.cfa ≤ f.stack.hi) (record f { trap = false }) rest (All-head (λ f. f.cfa ≤ f.stack.hi) f rest h) (All-tail (λ f. f.cfa ≤ f.stack.hi) f rest h)
-  settled_below trap fs gs (inner f rest call behind e called passed c free) h =
+  settled_below trap fs gs (inner f rest call behind e called passed c there free) h =
       All-cons (λ f. f.cfa ≤ f.stack.hi) (settled_to behind f) rest (All-head (λ f. f.cfa ≤ f.stack.hi) f rest h) (All-tail (λ f. f.cfa ≤ f.stack.hi) f rest h)
 
   settled_few : (trap : Bool) (fs gs : List Frame) → Settles p bases trap fs gs → cells fs ≤ 15 → cells gs ≤ 15
   settled_few trap fs gs (as_it_is t f rest e) h = h
   settled_few trap fs gs (outermost f rest e call out) h = subst (λ (n : ℕ). n ≤ 15) (sym (same_cells f (record f { trap = false }) rest refl)) h
-  settled_few trap fs gs (inner f rest call behind e called passed c free) h =
+  settled_few trap fs gs (inner f rest call behind e called passed c there free) h =
       subst (λ (n : ℕ). n ≤ 15) (sym (same_cells f (settled_to behind f) rest refl)) h
 
   pub settled_invariant : (t : Standing) (trap : Bool) (settled : List Frame) → Settles p bases trap t.core.shadow settled → IsInInterrupt t.core.shadow → HasFrameInvariant p bases t

@@ -5,7 +5,7 @@ use Rattle.operation_defs.specs.declared.op.Op.TheVariants.{Plain, RegOther, Nop
 use Rattle.operation_defs.specs.Made.{register_of}
 use Rattle.state_defs.specs.Address.{up, shifted}
 use Rattle.state_defs.specs.Region.{Reads}
-use Rattle.state_defs.specs.Frame.{Held, HoldsNothing, HoldsCell, HoldsBp, Slot, Unsaved, SavedAt, PartialAt, FullAt, is_of_call, Told, Untold, Frame, Protected, saved_slot, loaded_slot, popped_slot, with_top_slot, after_save, with_top_cell, with_top_told, top_stack, has_cell, cells, aligned_told, pushed_told, read_told, is_top_told_in}
+use Rattle.state_defs.specs.Frame.{Held, HoldsNothing, HoldsCell, HoldsBp, Slot, Unsaved, SavedAt, PartialAt, FullAt, is_of_call, Told, Untold, Frame, Protected, saved_slot, loaded_slot, popped_slot, with_top_slot, after_save, with_top_cell, with_top_told, top_stack, has_cell, cells, is_top_told_in}
 use Rattle.state_defs.specs.Effect.{Core, acted, StoresAlone, StoresOrdinarily, WritesPointers, StoresPointer, MakesRoom, SavesInCell, GoesTo, may_switch, is_at_cell, holds_bp, store_saves, Effect}
 use Rattle.machine_defs.specs.Program.{is_call_op}
 
@@ -152,7 +152,11 @@ module _ (c d : Core) where
     where
       go : (held : Held) → GoesTo held c d → IsShadowChange c.shadow d.shadow
       go HoldsNothing h = same (ap (λ (x : Core). x.shadow) h.1)
-      go (HoldsCell at other) h = same (ap (λ (x : Core). x.shadow) h)
+      go (HoldsCell at other) h = to_cell (is_at_cell at c.shadow) h
+        where
+          to_cell : (b : Bool) → MatchBool b (d ≡ record (acted c d) { rsp = at; stack = other }) (MakesRoom c d) → IsShadowChange c.shadow d.shadow
+          to_cell true h = same (ap (λ (x : Core). x.shadow) h)
+          to_cell false h = same (ap (λ (x : Core). x.shadow) h.1)
       go (HoldsBp copy) h = same (ap (λ (x : Core). x.shadow) h.1)
   effect_shape (BackSp reg) e = same (ap (λ (x : Core). x.shadow) e)
   effect_shape (StoreSp reg) e = same (ap (λ (x : Core). x.shadow) e.1)

@@ -7,7 +7,7 @@ use Rattle.state_defs.specs.declared.state.State.TheVariants.{Live, Ended, Regs}
 use Rattle.state_defs.specs.declared.state.HintState.TheVariants.{Set}
 use Rattle.state_defs.specs.Address.{up, down}
 use Rattle.state_defs.specs.Region.{Holds}
-use Rattle.state_defs.specs.Frame.{HoldsNothing, Slot, Unsaved, is_of_call, Frame, Mark, Protected, cells, listed, AreKept, IsAboveIn}
+use Rattle.state_defs.specs.Frame.{Slot, Unsaved, Frame, Mark, Protected, cells, listed, AreKept, IsAboveIn}
 use Rattle.state_defs.specs.Effect.{IsInStack}
 use Rattle.state_defs.specs.State.{initial, view_of, MeansTop}
 use Rattle.machine_defs.specs.Program.{Program, IsPoint, entry_points}
@@ -18,7 +18,7 @@ use Rattle.machine_defs.specs.Broken.{IsAccepted}
 use Rattle.machine_defs.specs.IsProgram.{IsProgram}
 use Rattle.machine_defs.specs.Law.{GoesOut, AreMarksKept, AreFrames, HasRunInvariant, HasFrameInvariant, IsInOrder}
 use Rattle.machine_defs.specs.Law as law
-use Rattle.stack_state.proofs.Memory.{written_word, word_within, read_held}
+use Rattle.stack_state.proofs.Memory.{word_within, read_held}
 use Rattle.stack_state.proofs.Pushes.{rsp_below_end}
 use Rattle.unwinding_law.proofs.Numbers.{down_up, up_inside}
 use Rattle.unwinding_law.proofs.KeptStates.{entry_kept}

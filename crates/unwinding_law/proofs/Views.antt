@@ -8,12 +8,11 @@ use Rattle.state_defs.specs.declared.state.Depth.TheVariants.{Known}
 use Rattle.state_defs.specs.declared.state.BpHome.{BpHome}
 use Rattle.state_defs.specs.declared.state.BpHome.TheVariants.{Same}
 use Rattle.state_defs.specs.declared.state.SpCopy.{SpCopy}
-use Rattle.state_defs.specs.declared.state.Phase.{Phase}
 use Rattle.state_defs.specs.declared.state.Phase.TheVariants.{Bare, Pushed, Framed, Homed}
 use Rattle.state_defs.specs.declared.state.State.{State}
 use Rattle.state_defs.specs.declared.state.State.TheVariants.{Live, Ended, Regs, Poised, Switched, Drap}
-use Rattle.state_defs.specs.Frame.{Registers, Held, Told, ToldIn, Frame, listed, is_same_register, is_told_in, is_top_told_in}
-use Rattle.state_defs.specs.State.{initial, held_copy, held_by, View, register_in, MeansDepth, MeansLive, MeansFull, MeansPartial, MeansAligned, MeansSaved, Means, MeansTop}
+use Rattle.state_defs.specs.Frame.{Registers, Held, Told, ToldIn, Frame, is_same_register, is_told_in, is_top_told_in}
+use Rattle.state_defs.specs.State.{initial, held_copy, held_by, View, register_in, MeansDepth, MeansLive, MeansAligned, MeansSaved, MeansTop}
 use Rattle.state_defs.specs.Rules.{is_poised, may_call}
 
 same_register : (reg : DrapRegister) → is_same_register reg reg ≡ true

@@ -12,7 +12,7 @@ use Rattle.state_defs.specs.declared.state.State.{State}
 use Rattle.state_defs.specs.declared.state.State.TheVariants.{Live, Ended, Regs, Poised, Switched, Drap}
 use Rattle.state_defs.specs.declared.state.HintState.{HintState}
 use Rattle.state_defs.specs.declared.state.HintState.TheVariants.{Set, Save, Restore}
-use Rattle.state_defs.specs.Frame.{Held, HoldsNothing, HoldsCell, HoldsBp, is_of_call, Frame}
+use Rattle.state_defs.specs.Frame.{Held, is_of_call, Frame}
 use Rattle.state_defs.specs.State.{ended_by, View, MeansTop}
 use Rattle.state_defs.specs.Rules.{is_initial, exit_rule, return_rule, sibling_rule, is_followed}
 use Rattle.machine_defs.specs.Program.{Program, entry_points, is_call_op, edge, is_local}

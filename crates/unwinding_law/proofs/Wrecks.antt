@@ -11,7 +11,7 @@ use Rattle.state_defs.specs.Address.{up, down}
 use Rattle.state_defs.specs.Region.{Reads, Holds}
 use Rattle.state_defs.specs.Frame.{Slot, is_of_call, Frame, Protected, protected_by, protected_cell, protected_top, protected, listed, AreKept}
 use Rattle.state_defs.specs.Effect.{Core, IsInStack}
-use Rattle.state_defs.specs.State.{ended_by, view_of, MeansTop}
+use Rattle.state_defs.specs.State.{view_of, MeansTop}
 use Rattle.machine_defs.specs.Program.{Program}
 use Rattle.machine_defs.specs.Machine.{Standing}
 use Rattle.machine_defs.specs.Ways.{may_leave}
