@@ -152,13 +152,13 @@ module _ (p : Program) (a : ℕ) (s : State) where
       go false x c = (x, elim (cases (held_by (p.held r) s) [] u c) [ inl e ↦ sym e | inr n ↦ nowhere u n ])
 
   -- what is brought along an edge
-  brought : (e : Edge) (u : State) → Contains (edges_of p a) e → Contains (brought_held p s (moved_at p a s) e) u → Brings p a s e.to u
-  brought e u c k =
+  pub brings_held : (e : Edge) (u : State) → Contains (edges_of p a) e → Contains (brought_held p s (moved_at p a s) e) u → Brings p a s e.to u
+  brings_held e u c k =
       let m = from_map (held_by (p.held e.to)) (brought_along s (moved_at p a s) e.kind) u k in
       subst (λ (x : State). Brings p a s e.to x) (sym m.2) (brings_along p a s e m.0 c m.1)
 
-  brought_back : (q : ℕ) (u : State) (r : IsBroughtBy p a q s u) → Contains (brought_held p s (moved_at p a s) r.edge) u
-  brought_back q u r =
+  pub held_along : (q : ℕ) (u : State) (r : IsBroughtBy p a q s u) → Contains (brought_held p s (moved_at p a s) r.edge) u
+  held_along q u r =
       let is : u ≡ held_by (p.held r.edge.to) r.moved = r.held ∙ ap (λ (x : ℕ). held_by (p.held x) r.moved) (sym r.to) in
       subst (λ (x : State). Contains (brought_held p s (moved_at p a s) r.edge) x) (sym is) (in_map (held_by (p.held r.edge.to)) (brought_along s (moved_at p a s) r.edge.kind) r.moved r.along)
 
@@ -170,13 +170,13 @@ module _ (p : Program) (a : ℕ) (s : State) where
           let r = brings_edge p a q s u brings in
           let back : (x : ℕ) → x ≡ q → p.unchecked x ≡ false = λ x e. subst (λ (y : ℕ). p.unchecked y ≡ false) (sym e) checked in
           let too : is_free (p.hint r.edge.to) ≡ true = subst (λ (y : ℕ). is_free (p.hint y) ≡ true) (sym r.to) free in
-          inl (r.edge, r.among, r.to, rw (back r.edge.to r.to, too) (brought_back q u r))
+          inl (r.edge, r.among, r.to, rw (back r.edge.to r.to, too) (held_along q u r))
       to checked (inr (h, v, e)) = inr ((mean q).1 (record { point = pq; hint = h; save = v }), rw checked (subst (λ (x : State). Contains (held_by (p.held q) s ∷ []) x) (sym e) (here (held_by (p.held q) s) [])))
 
       from : FromEdges p s (moved_at p a s) (edges_of p a) q u ⊎ FromRestores p s restores q u → Gives p a s q u
       from (inl (e, c, t, g)) =
           let k = along e u g in
-          subst (λ (x : ℕ). Gives p a s x u) t (k.0, inl (k.1, brought e u c k.2))
+          subst (λ (x : ℕ). Gives p a s x u) t (k.0, inl (k.1, brings_held e u c k.2))
       from (inr (c, g)) =
           let k = to_restore q u g in
           let m = (mean q).0 c in
@@ -190,7 +190,7 @@ module _ (p : Program) (old : LevelStates) (next : Offers) (i a : ℕ) (s : Stat
   aside : (q : ℕ) (u : State) → q < length old.kept → FromEdges p s (moved_at p a s) (edges_of p a) q u → IsLeftAside old q ⊎ So q u
   aside q u l (e, c, t, g) =
       let k = along p a s e u g in
-      vain q s u (omega (arith, l, count)) has (subst (λ (x : ℕ). p.unchecked x ≡ false) t k.0) (subst (λ (x : ℕ). is_free (p.hint x) ≡ true) t k.1) (subst (λ (x : ℕ). Brings p a s x u) t (brought p a s e u c k.2))
+      vain q s u (omega (arith, l, count)) has (subst (λ (x : ℕ). p.unchecked x ≡ false) t k.0) (subst (λ (x : ℕ). is_free (p.hint x) ≡ true) t k.1) (subst (λ (x : ℕ). Brings p a s x u) t (brings_held p a s e u c k.2))
 
   pub in_vain : next.settled ≡ old.next.settled → (next.met ≡ false → old.next.met ≡ false) → AreLeast old.kept next (WithEdges So p s (moved_at p a s) []) → AreLeast old.kept next (WithEdges So p s (moved_at p a s) (edges_of p a))
   in_vain settled met h = record { least = least; unmet = unmet }

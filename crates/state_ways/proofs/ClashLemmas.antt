@@ -10,10 +10,12 @@ use Rattle.state_defs.specs.declared.state.State.{State}
 use Rattle.state_defs.specs.Rules.{depth_number}
 use Rattle.machine_defs.specs.Program.{Program, IsPoint}
 use Rattle.machine_defs.specs.IsProgram.{HintsStandAtPoints}
-use Rattle.machine_defs.specs.Kept.{Brings, Kept, brought_along, edges_of, is_free, moved_at}
+use Rattle.machine_defs.specs.Kept.{Brings, Kept, edges_of, is_free, moved_at}
 use Rattle.unwinding_law.proofs.Lists.{here, cases, nowhere}
 use Rattle.unwinding_law.proofs.KeptPoints.{kept_are_points}
 use Rattle.unwinding_law.proofs.KeptStates.{brings_edge}
+use Rattle.kept_states.specs.Told.{brought_held}
+use Rattle.kept_states.proofs.Giving.{held_along}
 use Rattle.program_graph.specs.declared.parts.GraphParts.{GraphParts}
 use Rattle.stack_rules.specs.Before.{ComesBefore}
 use Rattle.state_ways.specs.declared.clashes.Clash.{Clash}
@@ -40,21 +42,21 @@ module _ (p : Program) (parts : GraphParts) (states : ℕ → Option State) (tol
   pub none_free : is_free (p.hint e.to) ≡ false → (w : Warning) → IsClash p w (clash_of a e) → ⊥
   none_free isnt w c = let k : is_free (p.hint e.to) ≡ true = c.free in cc
 
-  along_of : (s : State) → states a ≡ Some s → (o : Option State) → option_to_list o ≡ brought_along s (moved_at p a s) e.kind → (w : Warning) (c : IsClash p w (clash_of a e)) → o ≡ Some c.brought
+  along_of : (s : State) → states a ≡ Some s → (o : Option State) → option_to_list o ≡ brought_held p s (moved_at p a s) e → (w : Warning) (c : IsClash p w (clash_of a e)) → o ≡ Some c.brought
   along_of s from o is w c =
       let x : Some c.before ≡ Some s = sym (from_is w c) ∙ from in
       let same : c.before ≡ s = cc in
-      in_it o (subst (λ (xs : List State). Contains xs c.brought) (sym is) (subst (λ (z : State). Contains (brought_along z (moved_at p a z) e.kind) c.brought) same c.along))
+      in_it o (subst (λ (xs : List State). Contains xs c.brought) (sym is) (subst (λ (z : State). Contains (brought_held p z (moved_at p a z) e) c.brought) same c.along))
     where
       in_it : {t : State} (o : Option State) → Contains (option_to_list o) t → o ≡ Some t
       in_it None m = nowhere _ m
       in_it (Some u) m = elim (cases u [] _ m) [ inl k ↦ ap Some k | inr n ↦ nowhere _ n ]
 
   -- nor one that brings none
-  pub none_along : (s : State) → states a ≡ Some s → (o : Option State) → o ≡ None → option_to_list o ≡ brought_along s (moved_at p a s) e.kind → (w : Warning) → IsClash p w (clash_of a e) → ⊥
+  pub none_along : (s : State) → states a ≡ Some s → (o : Option State) → o ≡ None → option_to_list o ≡ brought_held p s (moved_at p a s) e → (w : Warning) → IsClash p w (clash_of a e) → ⊥
   none_along s from o none is w c = let k : o ≡ Some c.brought = along_of s from o is w c in cc
 
-  module _ (s other brought : State) (from : states a ≡ Some s) (to : states e.to ≡ Some other) (is : option_to_list (Some brought) ≡ brought_along s (moved_at p a s) e.kind) where
+  module _ (s other brought : State) (from : states a ≡ Some s) (to : states e.to ≡ Some other) (is : option_to_list (Some brought) ≡ brought_held p s (moved_at p a s) e) where
     brought_is : (w : Warning) (c : IsClash p w (clash_of a e)) → c.brought ≡ brought
     brought_is w c = let k : Some brought ≡ Some c.brought = along_of s from (Some brought) is w c in cc
 
@@ -129,16 +131,16 @@ all_noted p parts states told hints warnings clashes sound noted = record { each
     all : (q r : ℕ) (s t u : State) → Kept p q s → Brings p q s r t → Kept p r u → is_free (p.hint r) ≡ true → t ≢ u → IsNoted warnings clashes (numbered_warning (p.place r) 4 (depth_number u) (depth_number t))
     all q r s t u kept brings there free ne =
         let b = brings_edge p q r s t brings in
-        let clash : IsClash p (numbered_warning (p.place r) 4 (depth_number u) (depth_number t)) (clash_of q b.0) = record {
+        let clash : IsClash p (numbered_warning (p.place r) 4 (depth_number u) (depth_number t)) (clash_of q b.edge) = record {
           before = s;
           brought = t;
           kept = u;
           from = kept;
-          own = b.1;
-          along = b.3;
-          to = subst (λ (x : ℕ). Kept p x u) (sym b.2) there;
-          free = subst (λ (x : ℕ). is_free (p.hint x) ≡ true) (sym b.2) free;
+          own = b.among;
+          along = held_along p q s r t b;
+          to = subst (λ (x : ℕ). Kept p x u) (sym b.to) there;
+          free = subst (λ (x : ℕ). is_free (p.hint x) ≡ true) (sym b.to) free;
           other = ne;
-          told = ap (λ (x : ℕ). numbered_warning (p.place x) 4 (depth_number u) (depth_number t)) (sym b.2);
+          told = ap (λ (x : ℕ). numbered_warning (p.place x) 4 (depth_number u) (depth_number t)) (sym b.to);
         } in
-        noted q (kept_are_points p told.is_program hints q s kept) b.0 b.1 _ clash
+        noted q (kept_are_points p told.is_program hints q s kept) b.edge b.among _ clash

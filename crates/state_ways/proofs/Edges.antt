@@ -9,7 +9,8 @@ use Rattle.state_defs.specs.declared.state.HintState.{HintState}
 use Rattle.state_defs.specs.declared.state.HintState.TheVariants.{Set, Save, Restore}
 use Rattle.state_defs.specs.State.{initial}
 use Rattle.machine_defs.specs.Program.{Program}
-use Rattle.machine_defs.specs.Kept.{brought_along, edges_of, first_state, is_at_entry, is_free, moved_at, state_at}
+use Rattle.machine_defs.specs.Kept.{edges_of, first_state, is_at_entry, is_free, moved_at, state_at}
+use Rattle.kept_states.specs.Told.{brought_held}
 use Rattle.unwinding_law.proofs.Lists.{here, cases, nowhere}
 use Rattle.state_ways.specs.declared.steps.WayKind.TheVariants.{Entry, Hint}
 use Rattle.state_ways.specs.declared.steps.WayStep.{WayStep}
@@ -22,14 +23,14 @@ in_option None t = (λ e. absurd (let k : ⊥ = cc in k), λ c. nowhere t c)
 in_option (Some s) t = (λ e. (let k : s ≡ t = cc in subst (λ (z : State). Contains (z ∷ []) t) (sym k) (here t [])), λ c. elim (cases s [] t c) [ inl e ↦ ap Some e | inr n ↦ nowhere t n ])
 
 -- an edge brings to a kept point the state that it keeps
-pub brings_is : (p : Program) (states : ℕ → Option State) (a : ℕ) (e : Edge) (s other : State) (brought : Option State) → states a ≡ Some s → states e.to ≡ Some other → is_free (p.hint e.to) ≡ true → option_to_list brought ≡ brought_along s (moved_at p a s) e.kind → (brought ≡ Some other) ↔ BringsKept p states a e
+pub brings_is : (p : Program) (states : ℕ → Option State) (a : ℕ) (e : Edge) (s other : State) (brought : Option State) → states a ≡ Some s → states e.to ≡ Some other → is_free (p.hint e.to) ≡ true → option_to_list brought ≡ brought_held p s (moved_at p a s) e → (brought ≡ Some other) ↔ BringsKept p states a e
 brings_is p states a e s other brought from to free is = (λ h. record { state = s; brought = other; from = from; to = to; free = free; along = subst (λ (xs : List State). Contains xs other) is ((in_option brought other).0 h) }, λ b. back b)
   where
     back : BringsKept p states a e → brought ≡ Some other
     back b =
         let k : b.state ≡ s = (let x : Some b.state ≡ Some s = sym b.from ∙ from in cc) in
         let l : b.brought ≡ other = (let x : Some b.brought ≡ Some other = sym b.to ∙ to in cc) in
-        let c : Contains (brought_along s (moved_at p a s) e.kind) other = subst (λ (z : State). Contains (brought_along s (moved_at p a s) e.kind) z) l (subst (λ (z : State). Contains (brought_along z (moved_at p a z) e.kind) b.brought) k b.along) in
+        let c : Contains (brought_held p s (moved_at p a s) e) other = subst (λ (z : State). Contains (brought_held p s (moved_at p a s) e) z) l (subst (λ (z : State). Contains (brought_held p z (moved_at p a z) e) b.brought) k b.along) in
         (in_option brought other).1 (subst (λ (xs : List State). Contains xs other) (sym is) c)
 
 -- how a way begins

@@ -1,14 +1,16 @@
 -- What is kept at one level more, and why.
-use Rattle.std.proofs.Common.{◌≡◌, ℕ, zero, suc, true, false, List, [], ◌∷◌, ◌⊎◌, inl, inr, Option, Some, None, IsSome, Contains, if◌then◌else◌, option_and_then, refl, ap, sym, ◌∙◌, subst, add-zero}
+use Rattle.std.proofs.Common.{◌≡◌, ℕ, zero, suc, true, false, List, [], ◌∷◌, ◌⊎◌, inl, inr, Option, Some, None, IsSome, Contains, if◌then◌else◌, option_and_then, option_map, refl, ap, sym, ◌∙◌, subst, add-zero}
 use Rattle.state_defs.specs.declared.state.State.{State}
 use Rattle.state_defs.specs.declared.state.HintState.{HintState}
 use Rattle.state_defs.specs.declared.state.HintState.TheVariants.{Set, Save, Restore}
+use Rattle.state_defs.specs.State.{held_by}
 use Rattle.state_defs.specs.Order.{least}
 use Rattle.machine_defs.specs.Program.{Program, IsPoint, below}
 use Rattle.machine_defs.specs.Kept.{Brings, brought, brought_from, is_free, kept_or, later_state, state_at}
 use Rattle.machine_defs.proofs.KeptLemmas.{kept_next, kept_stays, kept_is_one}
 use Rattle.unwinding_law.proofs.Lists.{nowhere, in_flat_map, from_flat_map, in_below, from_below}
 use Rattle.unwinding_law.proofs.KeptStates.{brings_edge, kept_checked, least_member, least_some, unless_unchecked}
+use Rattle.kept_states.proofs.Giving.{held_along}
 use Rattle.kept_states.proofs.LevelSteps.{is_some_of, not_none, some_state, state_of_some}
 use Rattle.program_graph.specs.declared.parts.GraphParts.{GraphParts}
 use Rattle.state_ways.specs.declared.steps.WayStep.{WayStep}
@@ -20,7 +22,7 @@ module _ (p : Program) where
   abbrev Cause : ℕ → ℕ → State → Type 0
   Cause n q t =
       ((a : ℕ) × (s : State) × IsPoint p a × (state_at p n a ≡ Some s) × (is_free (p.hint q) ≡ true) × Brings p a s q t)
-      ⊎ ((a : ℕ) × (p.hint q ≡ Some Restore) × (p.save_of q ≡ Some a) × (state_at p n a ≡ Some t))
+      ⊎ ((a : ℕ) × (p.hint q ≡ Some Restore) × (p.save_of q ≡ Some a) × ((w : State) × (state_at p n a ≡ Some w) × (t ≡ held_by (p.held q) w)))
 
   -- along edges
   brought_cause : (n q : ℕ) (t : State) → is_free (p.hint q) ≡ true → least (brought p (state_at p n) q) ≡ Some t → Cause n q t
@@ -33,15 +35,19 @@ module _ (p : Program) where
       from : (a : ℕ) × Contains (below p.count) a × Contains (brought_from p a (state_at p n a) q) t → Cause n q t
       from r = one r.0 (from_below p.count r.0 r.1) (state_at p n r.0) refl r.2
 
+  mapped : (f : State → State) (o : Option State) {t : State} → option_map f o ≡ Some t → (w : State) × (o ≡ Some w) × (t ≡ f w)
+  mapped f None e = absurd (let k : ⊥ = cc in k)
+  mapped f (Some w) e = (w, refl, (let k : f w ≡ _ = cc in sym k))
+
   cause_by : (n q : ℕ) (t : State) (h : Option HintState) → p.hint q ≡ h → later_state p (state_at p n) q h ≡ Some t → Cause n q t
   cause_by n q t None h e = brought_cause n q t (rw h refl) e
   cause_by n q t (Some Save) h e = brought_cause n q t (rw h refl) e
   cause_by n q t (Some (Set s)) h e = absurd (let k : ⊥ = cc in k)
   cause_by n q t (Some Restore) h e = saved (p.save_of q) refl e
     where
-      saved : (o : Option ℕ) → p.save_of q ≡ o → option_and_then (state_at p n) o ≡ Some t → Cause n q t
+      saved : (o : Option ℕ) → p.save_of q ≡ o → option_map (held_by (p.held q)) (option_and_then (state_at p n) o) ≡ Some t → Cause n q t
       saved None v k = absurd (let z : ⊥ = cc in z)
-      saved (Some a) v k = inr (a, h, v, k)
+      saved (Some a) v k = inr (a, h, v, mapped (held_by (p.held q)) (state_at p n a) k)
 
   pub cause_of : (n q : ℕ) (t : State) → state_at p n q ≡ None → state_at p (suc n) q ≡ Some t → Cause n q t
   cause_of n q t none e =
@@ -69,13 +75,13 @@ module _ (p : Program) where
   -- so is a RESTORE whose SAVE is kept
   pub kept_by_save : (n a q : ℕ) (s : State) → state_at p n a ≡ Some s → p.unchecked q ≡ false → p.hint q ≡ Some Restore → p.save_of q ≡ Some a → IsSome (state_at p (suc n) q)
   kept_by_save n a q s e u h v =
-      let k : (if p.unchecked q then None else later_state p (state_at p n) q (p.hint q)) ≡ Some s = rw (u, h, v) e in
-      kept_or_later (state_at p n q) (if p.unchecked q then None else later_state p (state_at p n) q (p.hint q)) (is_some_of _ s k)
+      let k : (if p.unchecked q then None else later_state p (state_at p n) q (p.hint q)) ≡ Some (held_by (p.held q) s) = rw (u, h, v) (ap (option_map (held_by (p.held q))) e) in
+      kept_or_later (state_at p n q) (if p.unchecked q then None else later_state p (state_at p n) q (p.hint q)) (is_some_of _ (held_by (p.held q) s) k)
 
   -- it is so for whatever cause
   pub kept_for : (n q : ℕ) (t : State) → p.unchecked q ≡ false → Cause n q t → IsSome (state_at p (suc n) q)
   kept_for n q t u (inl (a, s, pa, e, f, b)) = kept_by_edge n a q s t pa e u f b
-  kept_for n q t u (inr (a, h, v, e)) = kept_by_save n a q t e u h v
+  kept_for n q t u (inr (a, h, v, (w, e, is))) = kept_by_save n a q w e u h v
 
   -- what is kept at a level is kept with the same state
   same_state : (n m q : ℕ) (s t : State) → state_at p n q ≡ Some s → state_at p m q ≡ Some t → s ≡ t
@@ -108,12 +114,12 @@ module _ (p : Program) where
           go (inr some) = not_none (state_at p level q) none (before_given level q t (is_checked (suc level) q t e) level a s some k (λ n h. inl (a, s, pa, h, f, b)))
           go (inl c) =
               let r = brings_edge p a q s t b in
-              let brings : BringsKept p states a r.0 = record { state = s; brought = t; from = kept_too level a s k; to = subst (λ (x : ℕ). states x ≡ Some t) (sym r.2) (kept_too (suc level) q t e); free = subst (λ (x : ℕ). is_free (p.hint x) ≡ true) (sym r.2) f; along = r.3 } in
-              subst (λ (x : ℕ). IsMarked ways x) r.2 ((led a c).edges r.0 r.1 brings)
-      newly q t pq none e (inr (a, h, v, k)) = go (fresh a (is.is_program.saves q a pq v) (is_some_of _ t k))
+              let brings : BringsKept p states a r.edge = record { state = s; brought = t; from = kept_too level a s k; to = subst (λ (x : ℕ). states x ≡ Some t) (sym r.to) (kept_too (suc level) q t e); free = subst (λ (x : ℕ). is_free (p.hint x) ≡ true) (sym r.to) f; along = held_along p a s q t r } in
+              subst (λ (x : ℕ). IsMarked ways x) r.to ((led a c).edges r.edge r.among brings)
+      newly q t pq none e (inr (a, h, v, (w, k, held))) = go (fresh a (is.is_program.saves q a pq v) (is_some_of _ w k))
         where
           go : Contains front a ⊎ IsSome (state_before p level a) → IsMarked ways q
-          go (inr some) = not_none (state_at p level q) none (before_given level q t (is_checked (suc level) q t e) level a t some k (λ n x. inr (a, h, v, x)))
+          go (inr some) = not_none (state_at p level q) none (before_given level q t (is_checked (suc level) q t e) level a w some k (λ n x. inr (a, h, v, (w, x, held))))
           go (inl c) = (led a c).restores q (record { point = pq; hint = h; save = v }) (is_some_of _ t (kept_too (suc level) q t e))
 
       marked_next : (q : ℕ) → IsPoint p q → IsSome (state_at p (suc level) q) → IsMarked ways q
@@ -136,7 +142,7 @@ module _ (p : Program) where
 
           for : Cause m q s → IsSome (state_at p level q)
           for (inl (a, w, pa, k, f, b)) = before_given level q s (is_checked (suc m) q s e) m a w (before a pa (so_far a w pa k)) k (λ n h. inl (a, w, pa, h, f, b))
-          for (inr (a, h, v, k)) = (let pa : IsPoint p a = is.is_program.saves q a pq v in before_given level q s (is_checked (suc m) q s e) m a s (before a pa (so_far a s pa k)) k (λ n x. inr (a, h, v, x)))
+          for (inr (a, h, v, (w, k, held))) = (let pa : IsPoint p a = is.is_program.saves q a pq v in before_given level q s (is_checked (suc m) q s e) m a w (before a pa (so_far a w pa k)) k (λ n x. inr (a, h, v, (w, x, held))))
 
           go : (state_at p m q ≡ None) ⊎ ((t : State) × (state_at p m q ≡ Some t)) → IsSome (state_at p level q)
           go (inl none) = for (cause_of m q s none e)

@@ -9,7 +9,8 @@ use Rattle.machine_defs.specs.Program.{Program, IsPoint}
 use Rattle.machine_defs.specs.Kept.{edges_of, state_at}
 use Rattle.machine_defs.proofs.KeptLemmas.{kept_is_one}
 use Rattle.unwinding_law.proofs.Lists.{cases, nowhere}
-use Rattle.unwinding_law.proofs.KeptStates.{brings_along, kept_checked}
+use Rattle.unwinding_law.proofs.KeptStates.{kept_checked}
+use Rattle.kept_states.proofs.Giving.{brings_held}
 use Rattle.kept_states.proofs.LevelSteps.{none_of, state_of_some}
 use Rattle.program_graph.specs.declared.parts.GraphParts.{GraphParts}
 use Rattle.program_graph.specs.Tells.{Means, Tells}
@@ -163,7 +164,7 @@ module _ (parts : GraphParts) (states : ℕ → Option State) where
             let same : s.0 ≡ b.state = kept_is_one p from s.0 b.state (level, s.1) ((told.kept from b.state).0 b.from) in
             let at_from : state_at p level from ≡ Some b.state = s.1 ∙ ap Some same in
             let checked : p.unchecked q ≡ false = kept_checked p q b.brought ((told.kept q b.brought).0 b.to) in
-            let kept : IsSome (state_at p (suc level) q) = kept_by_edge p level from q b.state b.brought pf at_from checked b.free (brings_along p from b.state (record { to = q; kind = k }) b.brought c b.along) in
+            let kept : IsSome (state_at p (suc level) q) = kept_by_edge p level from q b.state b.brought pf at_from checked b.free (brings_held p from b.state (record { to = q; kind = k }) b.brought c b.along) in
             let t = state_of_some (state_at p (suc level) q) kept in
             let is : t.0 ≡ b.brought = kept_is_one p q t.0 b.brought (suc level, t.1) ((told.kept q b.brought).0 b.to) in
             (goes_on level from q k kind b.state b.brought w way at_from c is_kind b.free none (t.1 ∙ ap Some is) b.along, kept)

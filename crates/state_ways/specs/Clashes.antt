@@ -7,7 +7,8 @@ use Rattle.machine_defs.specs.declared.flow.Edge.{Edge}
 use Rattle.state_defs.specs.declared.state.State.{State}
 use Rattle.state_defs.specs.Rules.{depth_number}
 use Rattle.machine_defs.specs.Program.{Program}
-use Rattle.machine_defs.specs.Kept.{Brings, Kept, brought_along, edges_of, is_free, moved_at}
+use Rattle.machine_defs.specs.Kept.{Brings, Kept, edges_of, is_free, moved_at}
+use Rattle.kept_states.specs.Told.{brought_held}
 use Rattle.program_graph.specs.declared.parts.GraphParts.{GraphParts}
 use Rattle.state_ways.specs.declared.clashes.Clash.{Clash}
 use Rattle.state_ways.specs.declared.listed.Mismatch.{Mismatch}
@@ -21,7 +22,7 @@ pub record IsClash (p : Program) (w : Warning) (c : Clash) : Type 0 where
   pub kept : State
   pub from : Kept p c.from before
   pub own : Contains (edges_of p c.from) c.edge
-  pub along : Contains (brought_along before (moved_at p c.from before) c.edge.kind) brought
+  pub along : Contains (brought_held p before (moved_at p c.from before) c.edge) brought
   pub to : Kept p c.edge.to kept
   pub free : is_free (p.hint c.edge.to) ≡ true
   pub other : brought ≢ kept

@@ -4,7 +4,8 @@ use Rattle.machine_defs.specs.declared.flow.Edge.{Edge}
 use Rattle.state_defs.specs.declared.state.State.{State}
 use Rattle.machine_defs.specs.Program.{Program, IsPoint}
 use Rattle.machine_defs.specs.IsProgram.{IsProgram}
-use Rattle.machine_defs.specs.Kept.{AreKeptStates, brought_along, edges_of, is_free, moved_at, state_at}
+use Rattle.machine_defs.specs.Kept.{AreKeptStates, edges_of, is_free, moved_at, state_at}
+use Rattle.kept_states.specs.Told.{brought_held}
 use Rattle.program_graph.specs.declared.parts.GraphParts.{GraphParts}
 use Rattle.program_graph.specs.Tells.{Means, Tells}
 use Rattle.state_ways.specs.declared.steps.WayStep.{WayStep}
@@ -27,7 +28,7 @@ pub record BringsKept (p : Program) (states : ℕ → Option State) (a : ℕ) (e
   pub from : states a ≡ Some state
   pub to : states e.to ≡ Some brought
   pub free : is_free (p.hint e.to) ≡ true
-  pub along : Contains (brought_along state (moved_at p a state) e.kind) brought
+  pub along : Contains (brought_held p state (moved_at p a state) e) brought
 
 -- what the point leads to is marked: the points to which it brings the states that they keep, and the kept RESTOREs that mean it
 pub record HasLed (p : Program) (states : ℕ → Option State) (ways : List (List WayStep)) (a : ℕ) : Type 0 where

@@ -5,7 +5,8 @@ use Rattle.machine_defs.specs.declared.flow.EdgeKind.TheVariants as edges
 use Rattle.state_defs.specs.declared.state.State.{State}
 use Rattle.state_defs.specs.declared.state.HintState.TheVariants as hints
 use Rattle.machine_defs.specs.Program.{Program, IsPoint, edge}
-use Rattle.machine_defs.specs.Kept.{brought_along, edges_of, is_free, moved_at, state_at, Kept, NotKept}
+use Rattle.machine_defs.specs.Kept.{edges_of, is_free, moved_at, state_at, Kept, NotKept}
+use Rattle.kept_states.specs.Told.{brought_held}
 use Rattle.state_ways.specs.declared.steps.WayKind.{WayKind}
 use Rattle.state_ways.specs.declared.steps.WayKind.TheVariants.{Entry, Hint, Restore, Next, Taken, Fixup, Table}
 use Rattle.state_ways.specs.declared.steps.WayStep.{WayStep}
@@ -28,7 +29,7 @@ along edges.Sibling = None
 pub data Way (p : Program) : ℕ → ℕ → List WayStep → Type 0 where
   entered : (q : ℕ) (s : State) → is_free (p.hint q) ≡ true → state_at p 0 q ≡ Some s → Way p 0 q (step q Entry ∷ [])
   hinted : (q : ℕ) (s : State) → p.hint q ≡ Some (hints.Set s) → state_at p 0 q ≡ Some s → Way p 0 q (step q Hint ∷ [])
-  goes_on : (level a q : ℕ) (k : EdgeKind) (kind : WayKind) (s t : State) (w : List WayStep) → Way p level a w → state_at p level a ≡ Some s → Contains (edges_of p a) (edge q k) → along k ≡ Some kind → is_free (p.hint q) ≡ true → state_at p level q ≡ None → state_at p (suc level) q ≡ Some t → Contains (brought_along s (moved_at p a s) k) t → Way p (suc level) q (w ++ step q kind ∷ [])
+  goes_on : (level a q : ℕ) (k : EdgeKind) (kind : WayKind) (s t : State) (w : List WayStep) → Way p level a w → state_at p level a ≡ Some s → Contains (edges_of p a) (edge q k) → along k ≡ Some kind → is_free (p.hint q) ≡ true → state_at p level q ≡ None → state_at p (suc level) q ≡ Some t → Contains (brought_held p s (moved_at p a s) (edge q k)) t → Way p (suc level) q (w ++ step q kind ∷ [])
   restored : (level a q : ℕ) (s : State) (w : List WayStep) → Way p level a w → p.hint q ≡ Some hints.Restore → p.save_of q ≡ Some a → state_at p level q ≡ None → state_at p (suc level) q ≡ Some s → Way p (suc level) q (w ++ step q Restore ∷ [])
 
 -- whether control didn't just go on to the point from the instruction before it

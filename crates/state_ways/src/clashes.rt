@@ -4,7 +4,7 @@ ghost use Rattle.std.specs.Prelude.{◌≡◌, ◌<◌, ◌↔◌, None, AllPair
 ghost use Rattle.ot_base.specs.declared.warning.Warning.{Warning as WarningValue};
 ghost use Rattle.ot_base.specs.declared.rules.TheConstants.{STATE_MISMATCH};
 ghost use Rattle.ot_base.specs.Warnings.{numbered_warning};
-ghost use Rattle.state_defs.specs.Rules.{depth_number as depth_number_of};
+ghost use Rattle.state_defs.specs.Rules.{depth_number as depth_number_of, depth_number_of as depth_number_of_depth, phase_number as phase_number_of};
 ghost use Rattle.machine_defs.specs.Program.{Program};
 ghost use Rattle.machine_defs.specs.IsProgram.{HintsStandAtPoints, IsProgram};
 ghost use Rattle.machine_defs.specs.Kept.{AreKeptStates, edges_of};
@@ -20,7 +20,7 @@ use kept_states::Kept;
 use machine_defs::Edge;
 use ot_base::{NoMemory, Place, Warning};
 use program_graph::Graph;
-use state_defs::{Depth, State};
+use state_defs::{Depth, Phase, State};
 use std::alloc::Global;
 
 /// An edge that brings to a kept point another state than the one that is kept there.
@@ -32,21 +32,39 @@ pub struct Clash {
     pub edge: Edge,
 }
 
+/// The number that a warning tells of a depth.
+fn number_of(depth: Depth) -> i128
+    ensures { result ≡ depth_number_of_depth depth }
+{
+    match depth {
+        Depth::Known(n) => i128::from(n),
+        Depth::AtLeast(n) => -i128::from(n),
+    }
+}
+
+/// The number that a warning tells of a phase.
+fn phase_number(phase: Phase) -> i128
+    ensures { result ≡ phase_number_of phase }
+{
+    match phase {
+        Phase::Bare { depth } => -i128::from(depth),
+        Phase::Pushed { size } => i128::from(size),
+        Phase::Framed { size } => i128::from(size),
+        Phase::Homed { size, .. } => i128::from(size),
+    }
+}
+
 /// The number that a warning tells of a state.
 fn depth_number(state: State) -> i128
     ensures { result ≡ depth_number_of state }
 {
     match state {
-        State::Live {
-            depth: Depth::Known(n),
-            ..
-        } => i128::from(n),
-        State::Live {
-            depth: Depth::AtLeast(n),
-            ..
-        } => -i128::from(n),
+        State::Live { depth, .. } => number_of(depth),
+        State::Poised { depth, .. } => number_of(depth),
         State::Ended(_) => 0,
         State::Regs { depth, .. } => i128::from(depth),
+        State::Switched { depth, .. } => i128::from(depth),
+        State::Drap { phase, .. } => phase_number(phase),
     }
 }
 
@@ -78,7 +96,7 @@ fn mismatch_at(graph: &Graph, kept: &Kept, from: u32, edge: Edge) -> Option<Mism
     if !is_free(graph.hint(edge.to)) {
         return None;
     }
-    let Some(brought) = brought_along(graph, from, state, edge.kind) else {
+    let Some(brought) = brought_along(graph, from, state, edge) else {
         return None;
     };
     if is_same(brought, other) {

@@ -8,16 +8,17 @@ ghost use Rattle.machine_defs.specs.Kept.{AreKeptStates, brought_along as brough
 ghost use Rattle.program_graph.specs.declared.parts.GraphParts.{GraphParts as GraphPartsValue};
 ghost use Rattle.program_graph.specs.Tells.{Means, Tells};
 ghost use Rattle.kept_states.specs.LevelStates.{at};
+ghost use Rattle.kept_states.specs.Told.{brought_held};
 ghost use Rattle.state_ways.specs.Marks.{AreShown, AreSpent, BringsKept, GoesOn, HasLed, IsBegun, IsMarked};
 ghost use Rattle.state_ways.specs.Ways.{AreWays, Way, is_turn, step as step_of, turns, turns_at};
 
 use crate::steps::{WayKind, way_kind};
 use crate::ways::Ways;
-use kept_states::{Kept, step_at};
+use kept_states::{Kept, held_at, step_at};
 use machine_defs::{Edge, EdgeKind};
 use ot_base::NoMemory;
 use program_graph::Graph;
-use state_defs::{HintState, State};
+use state_defs::{HintState, Phase, SpCopy, State};
 use std::alloc::Global;
 
 /// So few edges are looked at sooner than it is asked whose they are.
@@ -44,9 +45,42 @@ pub(crate) fn is_free(hint: Option<HintState>) -> bool
     }
 }
 
-/// What a state of a point is brought along an edge as: to a fixup the state before the instruction, else the one after it; to
-/// another function none.
-pub(crate) fn brought_along(graph: &Graph, from: u32, state: State, kind: EdgeKind) -> Option<State>
+/// Whether two copies of rsp are the same, or there are none.
+fn is_same_copy(one: Option<SpCopy>, other: Option<SpCopy>) -> bool
+    ensures { IsTrue result ↔ (one ≡ other) }
+{
+    match (one, other) {
+        (Some(one), Some(other)) => one.reg == other.reg && one.depth == other.depth,
+        (None, None) => true,
+        (Some(_), None) | (None, Some(_)) => false,
+    }
+}
+
+/// Whether two phases are the same.
+fn is_same_phase(one: Phase, other: Phase) -> bool
+    ensures { IsTrue result ↔ (one ≡ other) }
+{
+    match (one, other) {
+        (Phase::Bare { depth }, Phase::Bare { depth: other }) => depth == other,
+        (Phase::Pushed { size }, Phase::Pushed { size: other }) => size == other,
+        (Phase::Framed { size }, Phase::Framed { size: other }) => size == other,
+        (
+            Phase::Homed { size, home },
+            Phase::Homed {
+                size: other,
+                home: other_home,
+            },
+        ) => size == other && home == other_home,
+        (
+            Phase::Bare { .. } | Phase::Pushed { .. } | Phase::Framed { .. } | Phase::Homed { .. },
+            _,
+        ) => false,
+    }
+}
+
+/// What a state of a point is given along an edge as, before its copy of rsp is looked at: to a fixup the state before the
+/// instruction, else the one after it; to another function none.
+fn given_along(graph: &Graph, from: u32, state: State, kind: EdgeKind) -> Option<State>
     requires { from < length graph.now.parts.points.items }
     ensures { (p : Program) → Tells p graph.now.parts → option_to_list result ≡ brought_along_edge state (moved_at p from state) kind }
 {
@@ -57,28 +91,83 @@ pub(crate) fn brought_along(graph: &Graph, from: u32, state: State, kind: EdgeKi
     }
 }
 
+/// What a state of a point is brought along an edge as, with the copy of rsp alone that is held at its end.
+pub(crate) fn brought_along(graph: &Graph, from: u32, state: State, edge: Edge) -> Option<State>
+    requires from { from < length graph.now.parts.points.items }
+    requires to { edge.to < length graph.now.parts.points.items }
+    ensures { (p : Program) → Tells p graph.now.parts → option_to_list result ≡ brought_held p state (moved_at p from state) edge }
+{
+    match given_along(graph, from, state, edge.kind) {
+        Some(moved) => Some(held_at(graph, edge.to, moved)),
+        None => None,
+    }
+}
+
 /// Whether two states are the same.
 pub(crate) fn is_same(one: State, other: State) -> bool
     ensures { IsTrue result ↔ (one ≡ other) }
 {
     match (one, other) {
         (
-            State::Live { depth, fp, bp },
             State::Live {
+                depth,
+                fp,
+                bp,
+                copy,
+            },
+            State::Live {
+                depth: other_depth,
+                fp: other_fp,
+                bp: other_bp,
+                copy: other_copy,
+            },
+        ) => {
+            depth == other_depth
+                && fp == other_fp
+                && bp == other_bp
+                && is_same_copy(copy, other_copy)
+        }
+        (State::Ended(kind), State::Ended(other_kind)) => kind == other_kind,
+        (
+            State::Regs { full, depth, trap },
+            State::Regs {
+                full: other_full,
+                depth: other_depth,
+                trap: other_trap,
+            },
+        ) => full == other_full && depth == other_depth && trap == other_trap,
+        (
+            State::Poised { depth, fp, bp },
+            State::Poised {
                 depth: other_depth,
                 fp: other_fp,
                 bp: other_bp,
             },
         ) => depth == other_depth && fp == other_fp && bp == other_bp,
-        (State::Ended(kind), State::Ended(other_kind)) => kind == other_kind,
         (
-            State::Regs { full, depth },
-            State::Regs {
-                full: other_full,
+            State::Switched { depth, bp, fp },
+            State::Switched {
                 depth: other_depth,
+                bp: other_bp,
+                fp: other_fp,
             },
-        ) => full == other_full && depth == other_depth,
-        (State::Live { .. } | State::Ended(_) | State::Regs { .. }, _) => false,
+        ) => depth == other_depth && bp == other_bp && fp == other_fp,
+        (
+            State::Drap { reg, phase },
+            State::Drap {
+                reg: other_reg,
+                phase: other_phase,
+            },
+        ) => reg == other_reg && is_same_phase(phase, other_phase),
+        (
+            State::Live { .. }
+            | State::Ended(_)
+            | State::Regs { .. }
+            | State::Poised { .. }
+            | State::Switched { .. }
+            | State::Drap { .. },
+            _,
+        ) => false,
     }
 }
 
@@ -105,7 +194,7 @@ fn brings_kept(graph: &Graph, kept: &Kept, from: u32, edge: Edge) -> bool
     let Some(other) = kept.state(edge.to) else {
         return false;
     };
-    let brought = brought_along(graph, from, state, edge.kind);
+    let brought = brought_along(graph, from, state, edge);
     is_free(graph.hint(edge.to)) && is_brought(brought, other)
 }
 
