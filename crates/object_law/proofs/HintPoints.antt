@@ -83,9 +83,13 @@ none_nowhere o found order is = go (is_padding o no_point) is
     go true e = let k : ⊥ = cc in k
     go false e = false≢true (sym (first_not_text o.elf order.object) ∙ hint_in_text o no_point.place found order (some_own (hint_at (special_of o.elf).hints no_point.place) found e))
 
-pub hint_points : (o : Coded) (lists : NameLists) → ObjectIsInOrder o → HintsStandAtPoints (program_of o lists)
-unfolding program_of uncopied_program returning_graph graph_of
-hint_points o lists order q found is = elim (cases_lt q (length (points_of_object o))) [
+pub uncopied_hint_points : (o : Coded) (lists : NameLists) → ObjectIsInOrder o → HintsStandAtPoints (uncopied_program o lists)
+unfolding uncopied_program returning_graph graph_of
+uncopied_hint_points o lists order q found is = elim (cases_lt q (length (points_of_object o))) [
   | inl here ↦ here
   | inr beyond ↦ absurd (none_nowhere o found order (ap (hint_of o) (sym (get_or_past (points_of_object o) q no_point beyond)) ∙ is))
 ]
+
+pub hint_points : (o : Coded) (lists : NameLists) → ObjectIsInOrder o → HintsStandAtPoints (program_of o lists)
+unfolding program_of
+hint_points o lists order = uncopied_hint_points o lists order

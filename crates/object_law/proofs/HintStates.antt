@@ -168,23 +168,23 @@ state_right h s right is = zero (h.kind == 0) is
     five true e = subst IsConsistent (same_set e) (frame_right (pos 8) (omega (arith, ints)))
     five false e = six (h.kind == 6) e
 
-    four : (b : Bool) → (h.kind == 4) ≡ b → cond b (Some (Set (Regs false h.sp_offset))) (cond (h.kind == 5) (Some (Set initial)) (cond (h.kind == 6) (Some Save) (cond (h.kind == 7) (Some Restore) None))) ≡ Some (Set s) → IsConsistent s
+    four : (b : Bool) → (h.kind == 4) ≡ b → cond b (Some (Set (Regs false h.sp_offset (not h.signal)))) (cond (h.kind == 5) (Some (Set initial)) (cond (h.kind == 6) (Some Save) (cond (h.kind == 7) (Some Restore) None))) ≡ Some (Set s) → IsConsistent s
     four true k e = subst IsConsistent (same_set e) (regs_offset h right (or_right (h.kind == 3) (h.kind == 4) k))
     four false k e = five (h.kind == 5) e
 
-    three : (b : Bool) → (h.kind == 3) ≡ b → cond b (Some (Set (Regs true h.sp_offset))) (cond (h.kind == 4) (Some (Set (Regs false h.sp_offset))) (cond (h.kind == 5) (Some (Set initial)) (cond (h.kind == 6) (Some Save) (cond (h.kind == 7) (Some Restore) None)))) ≡ Some (Set s) → IsConsistent s
+    three : (b : Bool) → (h.kind == 3) ≡ b → cond b (Some (Set (Regs true h.sp_offset (not h.signal)))) (cond (h.kind == 4) (Some (Set (Regs false h.sp_offset (not h.signal)))) (cond (h.kind == 5) (Some (Set initial)) (cond (h.kind == 6) (Some Save) (cond (h.kind == 7) (Some Restore) None)))) ≡ Some (Set s) → IsConsistent s
     three true k e = subst IsConsistent (same_set e) (below_regs h.sp_offset (regs_offset h right (or_left (h.kind == 3) (h.kind == 4) k)))
     three false k e = four (h.kind == 4) refl e
 
-    two : (b : Bool) → (h.kind == 2) ≡ b → cond b (Some (Set (frame_state h.sp_offset))) (cond (h.kind == 3) (Some (Set (Regs true h.sp_offset))) (cond (h.kind == 4) (Some (Set (Regs false h.sp_offset))) (cond (h.kind == 5) (Some (Set initial)) (cond (h.kind == 6) (Some Save) (cond (h.kind == 7) (Some Restore) None))))) ≡ Some (Set s) → IsConsistent s
+    two : (b : Bool) → (h.kind == 2) ≡ b → cond b (Some (Set (frame_state h.sp_offset))) (cond (h.kind == 3) (Some (Set (Regs true h.sp_offset (not h.signal)))) (cond (h.kind == 4) (Some (Set (Regs false h.sp_offset (not h.signal)))) (cond (h.kind == 5) (Some (Set initial)) (cond (h.kind == 6) (Some Save) (cond (h.kind == 7) (Some Restore) None))))) ≡ Some (Set s) → IsConsistent s
     two true k e = subst IsConsistent (same_set e) (frame_right h.sp_offset (frame_offset h right k))
     two false k e = three (h.kind == 3) refl e
 
-    one : (b : Bool) → cond b (Some (Set (Ended EndOfStack))) (cond (h.kind == 2) (Some (Set (frame_state h.sp_offset))) (cond (h.kind == 3) (Some (Set (Regs true h.sp_offset))) (cond (h.kind == 4) (Some (Set (Regs false h.sp_offset))) (cond (h.kind == 5) (Some (Set initial)) (cond (h.kind == 6) (Some Save) (cond (h.kind == 7) (Some Restore) None)))))) ≡ Some (Set s) → IsConsistent s
+    one : (b : Bool) → cond b (Some (Set (Ended EndOfStack))) (cond (h.kind == 2) (Some (Set (frame_state h.sp_offset))) (cond (h.kind == 3) (Some (Set (Regs true h.sp_offset (not h.signal)))) (cond (h.kind == 4) (Some (Set (Regs false h.sp_offset (not h.signal)))) (cond (h.kind == 5) (Some (Set initial)) (cond (h.kind == 6) (Some Save) (cond (h.kind == 7) (Some Restore) None)))))) ≡ Some (Set s) → IsConsistent s
     one true e = subst IsConsistent (same_set e) tt
     one false e = two (h.kind == 2) refl e
 
-    zero : (b : Bool) → cond b (Some (Set (Ended Undefined))) (cond (h.kind == 1) (Some (Set (Ended EndOfStack))) (cond (h.kind == 2) (Some (Set (frame_state h.sp_offset))) (cond (h.kind == 3) (Some (Set (Regs true h.sp_offset))) (cond (h.kind == 4) (Some (Set (Regs false h.sp_offset))) (cond (h.kind == 5) (Some (Set initial)) (cond (h.kind == 6) (Some Save) (cond (h.kind == 7) (Some Restore) None))))))) ≡ Some (Set s) → IsConsistent s
+    zero : (b : Bool) → cond b (Some (Set (Ended Undefined))) (cond (h.kind == 1) (Some (Set (Ended EndOfStack))) (cond (h.kind == 2) (Some (Set (frame_state h.sp_offset))) (cond (h.kind == 3) (Some (Set (Regs true h.sp_offset (not h.signal)))) (cond (h.kind == 4) (Some (Set (Regs false h.sp_offset (not h.signal)))) (cond (h.kind == 5) (Some (Set initial)) (cond (h.kind == 6) (Some Save) (cond (h.kind == 7) (Some Restore) None))))))) ≡ Some (Set s) → IsConsistent s
     zero true e = subst IsConsistent (same_set e) tt
     zero false e = one (h.kind == 1) e
 

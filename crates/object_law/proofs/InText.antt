@@ -85,8 +85,8 @@ runs_in o point _ order (PointIs.padding other counting padded) = overlay_runs o
 runs : (o : Coded) (q : ℕ) → ObjectIsInOrder o → q < length (points_of_object o) → RunsIn o (address_of_point (alternatives_of o) (point_at o q)) (decoded_insn o (point_at o q))
 runs o q order here = runs_in o (point_at o q) (decoded_insn o (point_at o q)) order (point_is o q order.bytes here)
 
-pub in_text : (o : Coded) (lists : NameLists) → ObjectIsInOrder o → IsInText (program_of o lists)
-unfolding program_of uncopied_program returning_graph graph_of insn_by text_sections_of
+pub in_text : (o : Coded) (lists : NameLists) → ObjectIsInOrder o → IsInText (uncopied_program o lists)
+unfolding uncopied_program returning_graph graph_of insn_by text_sections_of
 in_text o lists order = record {
   lengths = λ q here. (runs o q order here).some;
   within = λ q here. (

@@ -43,7 +43,7 @@ use Rattle.object_law.specs.Flows.{ObjectIsInOrder}
 use Rattle.object_law.proofs.Bodies.{IsCutIn, before_cut, before_other, text_of}
 use Rattle.object_law.proofs.Entries.{has_number, plain_listed}
 use Rattle.object_law.proofs.EntryFacts.{entry_is}
-use Rattle.object_law.proofs.HintPoints.{hint_points}
+use Rattle.object_law.proofs.HintPoints.{uncopied_hint_points}
 use Rattle.object_law.proofs.InText.{in_text}
 use Rattle.object_law.proofs.Numbers.{numbered, point_count, points_equal}
 use Rattle.object_law.proofs.Overlays.{Overlays, address_plain, one_behind_other, overlays, own_entry, plain_at}
@@ -219,7 +219,7 @@ uncopied_laid_out o lists order = record {
   apart = λ q r of-q of-r variant address. one_number o q r of-q of-r (same_point_at o (point_at o q) (point_at o r) (decoded_insn o (point_at o q)) (decoded_insn o (point_at o r)) order (point_is o q order.bytes of-q) (point_is o r order.bytes of-r) variant address);
   in_order = λ q r of-q of-r variant sec before. lie_in_order o (point_at o q) (point_at o r) (decoded_insn o (point_at o q)) (decoded_insn o (point_at o r)) order (point_is o q order.bytes of-q) (point_is o r order.bytes of-r) variant sec before;
   sections = made_rise (λ i. let t : TextSection = record { sec = i; size = (section_at o.elf i).size } in t) (λ (t : TextSection). t.sec) (text_numbers o.elf) (λ i. refl) (numbers_rise o.elf);
-  hint_points = hint_points o lists order;
+  hint_points = uncopied_hint_points o lists order;
 }
 
 pub laid_out : (o : Coded) (lists : NameLists) → ObjectIsInOrder o → IsLaidOut (program_of o lists)
