@@ -1,3 +1,4 @@
 pub mod Edges
 pub mod Spread
+pub mod Reverse
 pub mod CopyFlow
