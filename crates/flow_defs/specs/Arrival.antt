@@ -19,7 +19,7 @@ use Rattle.alternatives.specs.Texts.{behind, insn_at, is_boundary}
 use Rattle.alternatives.specs.Points.{entry_of, next_point}
 use Rattle.flow_defs.specs.Coded.{Coded}
 use Rattle.flow_defs.specs.Tables.{same_owner}
-use Rattle.flow_defs.specs.Code.{texts_of, alternatives_of, numbers_of, point_at, points_of_object, is_plain}
+use Rattle.flow_defs.specs.Code.{texts_of, alternatives_of, numbers_of, point_at, is_plain}
 use Rattle.flow_defs.specs.Owners.{owner_of_point}
 use Rattle.flow_defs.specs.Sites.{site_holding}
 use Rattle.flow_defs.specs.Targets.{destination_of, returning_target}

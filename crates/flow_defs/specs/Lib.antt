@@ -27,3 +27,4 @@ pub mod WorkedFields
 pub mod WorkedWays
 pub mod WorkedSites
 pub mod WorkedNames
+pub mod WorkedCopies

@@ -3,6 +3,7 @@
 ghost use Rattle.ot_base.specs.NameLists.{NameLists};
 ghost use Rattle.flow_defs.specs.WorkedAlternatives.{HasNested, HasPadded, HasPatchedCall, HasPatchedJumps, HasPatchedWithCalls, HasSaves};
 ghost use Rattle.flow_defs.specs.WorkedCalls.{HasCalls};
+ghost use Rattle.flow_defs.specs.WorkedCopies.{HasCopies, HasLostCopy, HasOtherStack, HasRealigned};
 ghost use Rattle.flow_defs.specs.WorkedFields.{HasFields, HasRelocated};
 ghost use Rattle.flow_defs.specs.WorkedListed.{HasExceptionEntry, HasJumpTable, HasStaticBranch};
 ghost use Rattle.flow_defs.specs.WorkedNames.{HasHole, HasMarked, HasNamedCalls, HasReturningCode, HasTaskSwitch};
@@ -164,4 +165,24 @@ pub fn hole()
 /// Loose code, and code that switches tasks.
 pub fn task_switch()
     ensures { (lists : NameLists) → HasTaskSwitch lists }
+{}
+
+/// A copy of rsp over a call.
+pub fn copies()
+    ensures { (lists : NameLists) → HasCopies lists }
+{}
+
+/// A copy of rsp that a call loses.
+pub fn lost_copy()
+    ensures { (lists : NameLists) → HasLostCopy lists }
+{}
+
+/// A call on another stack.
+pub fn other_stack()
+    ensures { (lists : NameLists) → HasOtherStack lists }
+{}
+
+/// A function that aligns rsp, and finds its frame through r10.
+pub fn realigned()
+    ensures { (lists : NameLists) → HasRealigned lists }
 {}
