@@ -28,4 +28,7 @@ pub mod Scenes
 pub mod Slots
 pub mod Stays
 pub mod SwitchingConsistent
+pub mod SwitchingPoised
+pub mod SwitchingSlots
+pub mod SwitchingSound
 pub mod Words
