@@ -15,9 +15,10 @@ use Rattle.state_defs.specs.State.{view_of, MeansBare, MeansPushed, MeansFramed,
 use Rattle.state_defs.specs.Move.{to, push_phase, raise_phase, rsp_from_base_phase, is_in_register_alone}
 use Rattle.stack_state.proofs.Addresses.{near_from}
 use Rattle.stack_state.proofs.Arrivals.{Scene, Arrives, arrive}
+use Rattle.stack_state.proofs.Depths.{place_moved}
 use Rattle.stack_state.proofs.Pushes.{rsp_below_end}
 use Rattle.stack_state.proofs.RealignedOutcomes.{AreLow, low_in_stack, realigned_outcome}
-use Rattle.stack_state.proofs.RealignedPlaces.{place_moved, room_moved, unmoved}
+use Rattle.stack_state.proofs.RealignedPlaces.{room_moved, unmoved}
 use Rattle.stack_state.proofs.RealignedSteady.{Steady}
 use Rattle.stack_state.proofs.Results.{unless_then, refused_then}
 

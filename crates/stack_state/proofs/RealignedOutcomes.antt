@@ -18,8 +18,8 @@ use Rattle.stack_state.proofs.Addresses.{turned_from, plain_below, IsNear, near_
 use Rattle.stack_state.proofs.Arrivals.{Outcome}
 use Rattle.stack_state.proofs.Kept.{lower_above}
 use Rattle.stack_state.proofs.Memory.{stack_below_end}
+use Rattle.stack_state.proofs.Outcomes.{place_below}
 use Rattle.stack_state.proofs.Pushes.{rsp_below_end}
-use Rattle.stack_state.proofs.RealignedPlaces.{place_below}
 use Rattle.stack_state.proofs.RealignedSlots.{AllBy, AllTop, without_a_cell}
 use Rattle.stack_state.proofs.Slots.{EachHeld, each_joined, one_slot, two_slots}
 

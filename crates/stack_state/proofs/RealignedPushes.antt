@@ -16,14 +16,16 @@ use Rattle.state_defs.specs.Effect.{Core, IsInStack}
 use Rattle.state_defs.specs.State.{view_of, MeansBare, MeansPushed, MeansFramed, MeansHomed}
 use Rattle.state_defs.specs.Move.{to, push_phase, push_bp_phase, push_top}
 use Rattle.stack_state.proofs.Arrivals.{Scene, Arrives, arrive}
+use Rattle.stack_state.proofs.Depths.{place_moved}
 use Rattle.stack_state.proofs.Memory.{LiesWithin, written_word}
 use Rattle.stack_state.proofs.Pushes.{push_fits, pushed_held, rsp_below_end}
 use Rattle.stack_state.proofs.RealignedHeld.{unsaved_ra, saved_ra, saved_bp, saved_held, told_held}
 use Rattle.stack_state.proofs.RealignedMoves.{RegisterStays, push_sound}
 use Rattle.stack_state.proofs.RealignedOutcomes.{changed, realigned_outcome}
-use Rattle.stack_state.proofs.RealignedPlaces.{place_moved, unmoved}
-use Rattle.stack_state.proofs.RealignedSteady.{steady_pushed, told_changed, slot_saved, saved_once, same_as_itself, pushed_again}
+use Rattle.stack_state.proofs.RealignedPlaces.{unmoved}
+use Rattle.stack_state.proofs.RealignedSteady.{steady_pushed, told_changed, saved_once, same_as_itself, pushed_again}
 use Rattle.stack_state.proofs.Results.{refused_then}
+use Rattle.stack_state.proofs.Scenes.{slot_saved}
 use Rattle.stack_state.proofs.Slots.{EachHeld}
 
 -- a word that was pushed stands where rsp is

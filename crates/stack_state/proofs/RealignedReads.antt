@@ -19,14 +19,17 @@ use Rattle.state_defs.specs.Move.{is_near, has_near_numbers, int_same, to, raise
 use Rattle.stack_state.proofs.Addresses.{IsNear, near_from, up_plain}
 use Rattle.stack_state.proofs.Arrivals.{Scene, Arrives, arrive}
 use Rattle.stack_state.proofs.Consistent.{int_same_is, int_same_not}
+use Rattle.stack_state.proofs.Depths.{place_moved}
 use Rattle.stack_state.proofs.Kept.{same_memory_held}
+use Rattle.stack_state.proofs.LiveSlots.{apart}
 use Rattle.stack_state.proofs.Memory.{read_held}
 use Rattle.stack_state.proofs.RealignedHeld.{saved_ra, saved_bp, told_top, saved_held, unsaved_held}
 use Rattle.stack_state.proofs.RealignedMoves.{RegisterStays, raise_sound, stay_sound, homed_sound}
 use Rattle.stack_state.proofs.RealignedOutcomes.{AreLow, low_in_stack, changed, realigned_outcome}
-use Rattle.stack_state.proofs.RealignedPlaces.{place_moved, apart, unmoved}
-use Rattle.stack_state.proofs.RealignedSteady.{Steady, steady_same, told_changed, slot_changed, same_as_itself, read_in_register}
+use Rattle.stack_state.proofs.RealignedPlaces.{unmoved}
+use Rattle.stack_state.proofs.RealignedSteady.{Steady, steady_same, told_changed, same_as_itself, read_in_register}
 use Rattle.stack_state.proofs.Results.{unless_then, pick_then, refused_then}
+use Rattle.stack_state.proofs.Scenes.{slot_changed}
 use Rattle.stack_state.proofs.Slots.{EachHeld}
 
 -- the top is told where the register is read

@@ -8,7 +8,7 @@ use Rattle.operation_defs.specs.Made.{register_of, has_register, sets_bp, tells_
 use Rattle.state_defs.specs.declared.state.State.{State}
 use Rattle.state_defs.specs.Address.{down}
 use Rattle.state_defs.specs.Region.{WritesOnly}
-use Rattle.state_defs.specs.Frame.{Slot, SavedAt, Told, ToldIn, ToldAt, Frame, listed, with_top_slot, after_save, saved_slot, with_top_told, is_same_register, pushed_told, read_told}
+use Rattle.state_defs.specs.Frame.{SavedAt, Told, ToldIn, ToldAt, Frame, listed, saved_slot, with_top_told, is_same_register, pushed_told, read_told}
 use Rattle.state_defs.specs.Effect.{Core, StoresOrdinarily, SparesRegisters}
 use Rattle.stack_state.proofs.Arrivals.{Scene}
 use Rattle.stack_state.proofs.Kept.{same_memory_held, ordinary_held}
@@ -51,16 +51,6 @@ pub told_changed : (change : Frame → Told) (before after : List Frame) (f : Fr
     → after ≡ with_top_told change before → before ≡ f ∷ below → change f ≡ told → after ≡ record f { told = told } ∷ below
 told_changed change before after f below told e frames same =
     e ∙ ap (λ (fs : List Frame). with_top_told change fs) frames ∙ ap (λ (t : Told). record f { told = t } ∷ below) same
-
-pub slot_changed : (change : Slot → Slot) (before after : List Frame) (f : Frame) (below : List Frame) (slot : Slot)
-    → after ≡ with_top_slot change before → before ≡ f ∷ below → change f.slot ≡ slot → after ≡ record f { slot = slot } ∷ below
-slot_changed change before after f below slot e frames same =
-    e ∙ ap (λ (fs : List Frame). with_top_slot change fs) frames ∙ ap (λ (s : Slot). record f { slot = s } ∷ below) same
-
-pub slot_saved : (rbp address : ℕ) (before after : List Frame) (f : Frame) (below : List Frame) (slot : Slot)
-    → after ≡ after_save rbp address before → before ≡ f ∷ below → saved_slot (rbp == f.bp) address f.slot ≡ slot → after ≡ record f { slot = slot } ∷ below
-slot_saved rbp address before after f below slot e frames same =
-    e ∙ ap (λ (fs : List Frame). after_save rbp address fs) frames ∙ ap (λ (s : Slot). record f { slot = s } ∷ below) same
 
 -- rbp is saved once
 pub saved_once : (saves : Bool) (address a : ℕ) → saved_slot saves address (SavedAt a) ≡ SavedAt a
