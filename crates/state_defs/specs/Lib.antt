@@ -8,3 +8,8 @@ pub mod Move
 pub mod Row
 pub mod Rules
 pub mod Sound
+pub mod Worked
+pub mod WorkedCopies
+pub mod WorkedStacks
+pub mod WorkedAligned
+pub mod WorkedEffects
