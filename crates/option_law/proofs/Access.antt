@@ -6,7 +6,7 @@ use Rattle.machine_defs.specs.Program.{Program}
 use Rattle.machine_defs.specs.IsProgram.{IsProgram}
 use Rattle.machine_defs.specs.Machine.{Bases, IsPlacement, Standing, Machine, Wrecked, At}
 use Rattle.machine_defs.specs.Hint.{Lands}
-use Rattle.machine_defs.specs.Step.{Step, goes_on, faults, calls_in, calls_out, returns, tail_calls, wrecks, interrupted, irets}
+use Rattle.machine_defs.specs.Step.{Step, goes_on, faults, calls_in, calls_out, returns, tail_calls, wrecks, interrupted, irets, irets_behind}
 use Rattle.machine_defs.specs.Run.{Run, started}
 use Rattle.machine_defs.specs.Run as run
 use Rattle.machine_defs.specs.Law.{IsInOrder, UnwindingLaw}
@@ -14,12 +14,12 @@ use Rattle.machine_defs.specs.Broken.{IsAccepted}
 use Rattle.machine_defs.specs.Allowances.{Allowances, EntersFunctions}
 use Rattle.machine_defs.specs.Access.{entered, hinted}
 use Rattle.machine_defs.specs.AccessRules.{AccessWarns}
-use Rattle.option_law.specs.Access.{is_interrupt, keeps_frames, HomesAfter, after_call, after_tail_call, after_return, after_iret, after_others, top_of, TakesSmap, AccessRun, at_entry, at_hint, stepped, IsAccessKept, AccessLaw}
+use Rattle.option_law.specs.Access.{is_interrupt, keeps_frames, HomesAfter, after_call, after_tail_call, after_return, after_iret, after_iret_behind, after_others, top_of, TakesSmap, AccessRun, at_entry, at_hint, stepped, IsAccessKept, AccessLaw}
 use Rattle.option_law.proofs.Clean.{accepted, keeps_access}
 use Rattle.option_law.proofs.Home.{AreAtHome, at_top, reached_on, stays_off, left_home}
 use Rattle.option_law.proofs.Effects.{landed}
 use Rattle.option_law.proofs.Targets.{leaves_there, safe_target, safe_sibling}
-use Rattle.option_law.proofs.Steps.{AreHere, landed_here, start_here, goes_on_here, faults_here, calls_in_here, calls_out_here, returns_here, tail_calls_here, no_iret}
+use Rattle.option_law.proofs.Steps.{AreHere, landed_here, start_here, goes_on_here, faults_here, calls_in_here, calls_out_here, returns_here, tail_calls_here, no_iret, no_iret_behind}
 
 -- the frames of a state that isn't wrecked are at home
 abbrev AreIn : Program → Allowances → Machine → List Bool → Type 0
@@ -37,26 +37,28 @@ module _ (law : UnwindingLaw) (p : Program) (allowed : Allowances) (bases : Base
   in_order m homes r = law p bases is placed acc m (forgotten p allowed bases m homes r)
 
   -- each step, with the hint behind it
-  taken_before : (t u : Standing) → Lands p t u → allowed.lacks_smap u.point ≡ false → allowed.lacks_smap t.point ≡ false
-  taken_before t u l taken = subst (λ (x : ℕ). allowed.lacks_smap x ≡ false) (landed p t u l).point taken
+  taken_before : (t u : Standing) → Lands p bases t u → allowed.lacks_smap u.point ≡ false → allowed.lacks_smap t.point ≡ false
+  taken_before t u l taken = subst (λ (x : ℕ). allowed.lacks_smap x ≡ false) (landed p bases t u l).point taken
 
   -- a step that keeps the frames
   other_in : (m n : Machine) (homes : List Bool) → IsInOrder p bases m → AreIn p allowed m homes → (step : Step p bases m n) → is_interrupt step ≡ false → keeps_frames step ≡ true → TakesSmap allowed n → AreIn p allowed n homes
-  other_in m n homes o h (goes_on s t u g l) quiet other taken = landed_here p allowed bases t u _ (landed p t u l) (goes_on_here p allowed bases is acc functions fine s t o.0 o.1 homes h g (taken_before t u l taken))
-  other_in m n homes o h (faults s t u g l) quiet other taken = landed_here p allowed bases t u _ (landed p t u l) (faults_here p allowed bases is acc functions fine s t o.0 o.1 homes h g (taken_before t u l taken))
-  other_in m n homes o h (calls_out s t u g l) quiet other taken = landed_here p allowed bases t u _ (landed p t u l) (calls_out_here p allowed bases is acc functions fine s t o.0 o.1 homes h g (taken_before t u l taken))
+  other_in m n homes o h (goes_on s t u g l) quiet other taken = landed_here p allowed bases t u _ (landed p bases t u l) (goes_on_here p allowed bases is acc functions fine s t o.0 o.1 homes h g (taken_before t u l taken))
+  other_in m n homes o h (faults s t u g l) quiet other taken = landed_here p allowed bases t u _ (landed p bases t u l) (faults_here p allowed bases is acc functions fine s t o.0 o.1 homes h g (taken_before t u l taken))
+  other_in m n homes o h (calls_out s t u g l) quiet other taken = landed_here p allowed bases t u _ (landed p bases t u l) (calls_out_here p allowed bases is acc functions fine s t o.0 o.1 homes h g (taken_before t u l taken))
   other_in m n homes o h (wrecks s w) quiet other taken = tt
   other_in m n homes o h (interrupted s t u g l) quiet other taken = absurd (let k : ⊥ = cc in k)
   other_in m n homes o h (calls_in s t u g l) quiet other taken = absurd (let k : ⊥ = cc in k)
   other_in m n homes o h (tail_calls s t u g l) quiet other taken = absurd (let k : ⊥ = cc in k)
   other_in m n homes o h (returns s t u g l) quiet other taken = absurd (let k : ⊥ = cc in k)
   other_in m n homes o h (irets s t g) quiet other taken = absurd (let k : ⊥ = cc in k)
+  other_in m n homes o h (irets_behind s t u g l) quiet other taken = absurd (let k : ⊥ = cc in k)
 
   step_in : (m n : Machine) (homes after : List Bool) → IsInOrder p bases m → AreIn p allowed m homes → (step : Step p bases m n) → is_interrupt step ≡ false → HomesAfter p allowed bases m n step homes after → TakesSmap allowed n → AreIn p allowed n after
-  step_in m n homes after o h step quiet (after_call s t u g l hs) taken = landed_here p allowed bases t u _ (landed p t u l) (calls_in_here p allowed bases is acc functions fine s t o.0 o.1 hs h g (taken_before t u l taken))
-  step_in m n homes after o h step quiet (after_tail_call s t u g l hs) taken = landed_here p allowed bases t u _ (landed p t u l) (tail_calls_here p allowed bases is acc functions fine s t o.0 o.1 hs h g (taken_before t u l taken))
-  step_in m n homes after o h step quiet (after_return s t u g l hs) taken = landed_here p allowed bases t u _ (landed p t u l) (returns_here p allowed bases is acc functions fine s t o.0 o.1 hs h g (taken_before t u l taken))
+  step_in m n homes after o h step quiet (after_call s t u g l hs) taken = landed_here p allowed bases t u _ (landed p bases t u l) (calls_in_here p allowed bases is acc functions fine s t o.0 o.1 hs h g (taken_before t u l taken))
+  step_in m n homes after o h step quiet (after_tail_call s t u g l hs) taken = landed_here p allowed bases t u _ (landed p bases t u l) (tail_calls_here p allowed bases is acc functions fine s t o.0 o.1 hs h g (taken_before t u l taken))
+  step_in m n homes after o h step quiet (after_return s t u g l hs) taken = landed_here p allowed bases t u _ (landed p bases t u l) (returns_here p allowed bases is acc functions fine s t o.0 o.1 hs h g (taken_before t u l taken))
   step_in m n homes after o h step quiet (after_iret s t g hs) taken = absurd (no_iret p allowed bases is acc functions fine s t o.0 o.1 hs h g)
+  step_in m n homes after o h step quiet (after_iret_behind s t u g l hs) taken = absurd (no_iret_behind p allowed bases is acc functions fine s t o.0 o.1 hs h g)
   step_in m n homes after o h step quiet (after_others k l st hs other) taken = other_in k l hs o h st quiet other taken
 
   run_in : (m : Machine) (homes : List Bool) → AccessRun p allowed bases m homes → AreIn p allowed m homes

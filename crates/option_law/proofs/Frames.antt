@@ -5,18 +5,20 @@ use Rattle.std.proofs.lemmas.List.Elements.{All-head, All-tail}
 use Rattle.ot_base.specs.declared.options.Options.{Options}
 use Rattle.ot_base.specs.declared.rules.TheConstants.{CALL_WITHOUT_FRAME}
 use Rattle.state_defs.specs.declared.state.Depth.{Depth}
+use Rattle.state_defs.specs.declared.state.Depth.TheVariants.{Known}
 use Rattle.state_defs.specs.declared.state.BpHome.{BpHome}
 use Rattle.state_defs.specs.declared.state.BpHome.TheVariants.{Same, Saved}
 use Rattle.state_defs.specs.declared.state.EndKind.{EndKind}
+use Rattle.state_defs.specs.declared.state.SpCopy.{SpCopy}
 use Rattle.state_defs.specs.declared.state.State.{State}
-use Rattle.state_defs.specs.declared.state.State.TheVariants.{Live, Ended, Regs}
+use Rattle.state_defs.specs.declared.state.State.TheVariants.{Live, Ended, Regs, Poised, Switched, Drap}
 use Rattle.state_defs.specs.Address.{up, down}
 use Rattle.state_defs.specs.Region.{Holds}
-use Rattle.state_defs.specs.Frame.{Slot, is_of_call, Frame, Protected, protected_by, protected, listed, AreKept}
+use Rattle.state_defs.specs.Frame.{Slot, SavedAt, is_of_call, Frame, Protected, protected_by, protected_cell, protected_top, protected, listed, AreKept}
 use Rattle.state_defs.specs.Effect.{Core}
-use Rattle.state_defs.specs.State.{ended_by, Means, MeansTop}
+use Rattle.state_defs.specs.State.{ended_by, View, view_of, without_cell, MeansLive, Means, MeansTop}
 use Rattle.state_defs.specs.Move.{int_same}
-use Rattle.state_defs.specs.Rules.{has_frame}
+use Rattle.state_defs.specs.Rules.{has_frame, call_rule}
 use Rattle.machine_defs.specs.Program.{Program, is_call_op}
 use Rattle.machine_defs.specs.Machine.{Bases, Standing, Machine, Wrecked, At}
 use Rattle.machine_defs.specs.Law.{HasRunInvariant, IsInOrder, UnwindingLaw}
@@ -41,43 +43,65 @@ framed (Some m) (Saved o) e = let k = and_parts (int_same m (pos 16)) _ e in (ap
 below_and_above : (x : ℕ) → down x 8 ≡ up (down x 16) 8
 below_and_above x = omega arith
 
--- a live state with that frame means such a frame
-at_frame : (core : Core) (depth : Depth) (f : Frame) (fs : List Frame) → Means (Live depth (Some (pos 16)) (Saved (pos 16))) core.rsp core.rbp f → AreKept core.rsp core.region (f ∷ fs) → HasFramePointer core f
-at_frame core depth f fs m k =
-    let rbp : core.rbp ≡ down f.cfa 16 = m.fp in
-    let both : All (λ (x : Protected). Holds core.region x.at x.value) (record { at = down f.cfa 8; value = f.ra } ∷ record { at = down f.cfa 16; value = f.bp } ∷ flat_map protected fs) =
-    subst (λ (x : Slot). All (λ (y : Protected). Holds core.region y.at y.value) (protected_by x f.ra f.cfa f.bp ++ flat_map protected fs)) m.bp k.hold
+-- the slots of frames below a top one, and of that the others than these
+abbrev others : Frame → List Frame → List Protected
+others f fs = (protected_cell f.cell ++ protected_top f.told f.cfa) ++ flat_map protected fs
+
+-- rbp as it is, with the slots of such a frame, is its frame pointer
+at_frame : (core : Core) (f : Frame) (fs : List Frame) → core.rbp ≡ down f.cfa 16 → f.slot ≡ SavedAt (down f.cfa 16) → AreKept core.stack core.rsp core.memory (f ∷ fs) → HasFramePointer core f
+at_frame core f fs rbp slot k =
+    let both : All (λ (x : Protected). Holds core.memory x.at x.value) (record { at = down f.cfa 8; value = f.ra } ∷ record { at = down f.cfa 16; value = f.bp } ∷ others f fs) =
+    subst (λ (x : Slot). All (λ (y : Protected). Holds core.memory y.at y.value) ((protected_by x f.ra f.cfa f.bp ++ (protected_cell f.cell ++ protected_top f.told f.cfa)) ++ flat_map protected fs)) slot k.hold
     in
-    let ra : Holds core.region (down f.cfa 8) f.ra = All-head (λ (x : Protected). Holds core.region x.at x.value) (record { at = down f.cfa 8; value = f.ra }) (record { at = down f.cfa 16; value = f.bp } ∷ flat_map protected fs) both in
-    let bp : Holds core.region (down f.cfa 16) f.bp = All-head (λ (x : Protected). Holds core.region x.at x.value) (record { at = down f.cfa 16; value = f.bp }) (flat_map protected fs) (All-tail (λ (x : Protected). Holds core.region x.at x.value) (record { at = down f.cfa 8; value = f.ra }) (record { at = down f.cfa 16; value = f.bp } ∷ flat_map protected fs) both) in
+    let ra : Holds core.memory (down f.cfa 8) f.ra = All-head (λ (x : Protected). Holds core.memory x.at x.value) (record { at = down f.cfa 8; value = f.ra }) (record { at = down f.cfa 16; value = f.bp } ∷ others f fs) both in
+    let bp : Holds core.memory (down f.cfa 16) f.bp = All-head (λ (x : Protected). Holds core.memory x.at x.value) (record { at = down f.cfa 16; value = f.bp }) (others f fs) (All-tail (λ (x : Protected). Holds core.memory x.at x.value) (record { at = down f.cfa 8; value = f.ra }) (record { at = down f.cfa 16; value = f.bp } ∷ others f fs) both) in
     record {
       rbp = rbp;
-      saved = subst (λ (x : ℕ). Holds core.region x f.bp) (sym rbp) bp;
-      returns = subst (λ (x : ℕ). Holds core.region (up x 8) f.ra) (sym rbp) (subst (λ (x : ℕ). Holds core.region x f.ra) (below_and_above f.cfa) ra);
+      saved = subst (λ (x : ℕ). Holds core.memory x f.bp) (sym rbp) bp;
+      returns = subst (λ (x : ℕ). Holds core.memory (up x 8) f.ra) (sym rbp) (subst (λ (x : ℕ). Holds core.memory x f.ra) (below_and_above f.cfa) ra);
     }
 
+-- what such a live state means
+pub record MeansFramed (rbp : ℕ) (f : Frame) : Type 0 where
+  pub rbp_is : rbp ≡ down f.cfa 16
+  pub slot_is : f.slot ≡ SavedAt (down f.cfa 16)
+
+means_framed : (depth : Depth) (copy : Option SpCopy) (v : View) (f : Frame) → MeansLive depth (Some (pos 16)) (Saved (pos 16)) copy v f → MeansFramed v.rbp f
+means_framed depth copy v f m = record { rbp_is = m.fp; slot_is = m.bp }
+
+live_framed : (depth : Depth) (fp : Option ℤ) (bp : BpHome) (copy : Option SpCopy) (v : View) (f : Frame) → has_frame fp bp ≡ true → MeansLive depth fp bp copy v f → MeansFramed v.rbp f
+live_framed depth fp bp copy v f e m =
+    let both = framed fp bp e in
+    means_framed depth copy v f (subst (λ (x : Option ℤ). MeansLive depth x (Saved (pos 16)) copy v f) both.0 (subst (λ (x : BpHome). MeansLive depth fp x copy v f) both.1 m))
+
+uncelled : (rbp : ℕ) (f : Frame) → MeansFramed rbp (without_cell f) → MeansFramed rbp f
+uncelled rbp f m = record { rbp_is = m.rbp_is; slot_is = m.slot_is }
+
 -- saved registers are no call's
-regs_of_interrupt : (full : Bool) (depth : ℤ) (rsp rbp : ℕ) (f : Frame) → Means (Regs full depth) rsp rbp f → is_of_call f.slot ≡ false
-regs_of_interrupt true depth rsp rbp f m = ap is_of_call m.slot
-regs_of_interrupt false depth rsp rbp f m = ap is_of_call m.slot
+regs_of_interrupt : (full : Bool) (depth : ℤ) (trap : Bool) (v : View) (f : Frame) (below : List Frame) → Means (Regs full depth trap) v f below → is_of_call f.slot ≡ false
+regs_of_interrupt true depth trap v f below m = ap is_of_call m.slot
+regs_of_interrupt false depth trap v f below m = ap is_of_call m.slot
 
 module _ (p : Program) (allowed : Allowances) (options : Options) (asked : options.fp ≡ true) (clean : IsClean p allowed options) (s : Standing) (f : Frame) (fs : List Frame) where
   module _ (call : is_call_op (p.insn s.point).op ≡ true) (other : p.calls_fentry s.point ≡ false) (of_call : is_of_call f.slot ≡ true) where
-    has_pointer : (a : State) → Kept p s.point a → ended_by a ≡ None → MeansTop a s.core.rsp s.core.rbp (f ∷ fs) → AreKept s.core.rsp s.core.region (listed None (f ∷ fs)) → HasFramePointer s.core f
-    has_pointer (Live depth fp bp) kept e m k =
-        let ruled = unruled (has_frame fp bp) CALL_WITHOUT_FRAME (λ h. clean _ _ _ _ (of_stack _ _ _ _ (without_frame s.point (Live depth fp bp) asked kept call other h))) in
-        let both = framed fp bp ruled in
-        let means : Means (Live depth (Some (pos 16)) (Saved (pos 16))) s.core.rsp s.core.rbp f = subst (λ (x : Option ℤ). Means (Live depth x (Saved (pos 16))) s.core.rsp s.core.rbp f) both.0 (subst (λ (x : BpHome). Means (Live depth fp x) s.core.rsp s.core.rbp f) both.1 m) in
-        at_frame s.core depth f (listed f.ended_caller fs) means k
-    has_pointer (Ended kind) kept e m k = absurd (let z : ⊥ = cc in z)
-    has_pointer (Regs full depth) kept e m k = let other_kind = regs_of_interrupt full depth s.core.rsp s.core.rbp f m in absurd (let z : ⊥ = cc in z)
+    ruled : (a : State) → Kept p s.point a → call_rule a ≡ Some CALL_WITHOUT_FRAME → ⊥
+    ruled a kept h = clean _ _ _ _ (of_stack _ _ _ _ (without_frame s.point a asked kept call other h))
+
+    has_pointer : (a : State) → Kept p s.point a → ended_by a ≡ None → MeansTop a (view_of s.core) (f ∷ fs) → MeansFramed s.core.rbp f
+    has_pointer (Live depth fp bp copy) kept e m = live_framed depth fp bp copy (view_of s.core) f (unruled (has_frame fp bp) CALL_WITHOUT_FRAME (λ h. ruled (Live depth fp bp copy) kept h)) m
+    has_pointer (Poised depth fp bp) kept e m = uncelled s.core.rbp f (live_framed depth fp bp None (view_of s.core) (without_cell f) (unruled (has_frame fp bp) CALL_WITHOUT_FRAME (λ h. ruled (Poised depth fp bp) kept h)) m.live)
+    has_pointer (Switched depth bp fp) kept e m = uncelled s.core.rbp f (live_framed (Known depth) fp bp None _ (without_cell f) (unruled (has_frame fp bp) CALL_WITHOUT_FRAME (λ h. ruled (Switched depth bp fp) kept h)) m.live)
+    has_pointer (Drap reg phase) kept e m = absurd (ruled (Drap reg phase) kept refl)
+    has_pointer (Ended kind) kept e m = absurd (let z : ⊥ = cc in z)
+    has_pointer (Regs full depth trap) kept e m = let other_kind = regs_of_interrupt full depth trap (view_of s.core) f (listed f.ended_caller fs) m in absurd (let z : ⊥ = cc in z)
 
   at_call : HasRunInvariant p s → is_call_op (p.insn s.point).op ≡ true → p.calls_fentry s.point ≡ false → s.ended ≡ None → s.core.shadow ≡ f ∷ fs → is_of_call f.slot ≡ true → HasFramePointer s.core f
   at_call r call other live shadow of_call =
-      let means : MeansTop r.state s.core.rsp s.core.rbp (f ∷ fs) = subst (λ (x : List Frame). MeansTop r.state s.core.rsp s.core.rbp x) shadow r.means in
-      let live_slots : AreKept s.core.rsp s.core.region (listed None s.core.shadow) = subst (λ (x : Option EndKind). AreKept s.core.rsp s.core.region (listed x s.core.shadow)) live r.slots in
-      let slots : AreKept s.core.rsp s.core.region (listed None (f ∷ fs)) = subst (λ (x : List Frame). AreKept s.core.rsp s.core.region (listed None x)) shadow live_slots in
-      has_pointer call other of_call r.state r.kept (sym r.ended ∙ live) means slots
+      let means : MeansTop r.state (view_of s.core) (f ∷ fs) = subst (λ (x : List Frame). MeansTop r.state (view_of s.core) x) shadow r.means in
+      let live_slots : AreKept s.core.stack s.core.rsp s.core.memory (listed None s.core.shadow) = subst (λ (x : Option EndKind). AreKept s.core.stack s.core.rsp s.core.memory (listed x s.core.shadow)) live r.slots in
+      let slots : AreKept s.core.stack s.core.rsp s.core.memory (listed None (f ∷ fs)) = subst (λ (x : List Frame). AreKept s.core.stack s.core.rsp s.core.memory (listed None x)) shadow live_slots in
+      let pointer = has_pointer call other of_call r.state r.kept (sym r.ended ∙ live) means in
+      at_frame s.core f (listed f.ended_caller fs) pointer.rbp_is pointer.slot_is slots
 
 in_order : (p : Program) (allowed : Allowances) (options : Options) (bases : Bases) → options.fp ≡ true → IsClean p allowed options → (m : Machine) → IsInOrder p bases m → CallsWithFrame p m
 in_order p allowed options bases asked clean Wrecked o = o

@@ -13,7 +13,8 @@ use Rattle.machine_defs.specs.Access.{Reached, access_after, access_along}
 use Rattle.machine_defs.specs.Access as access
 use Rattle.machine_defs.specs.AccessRules.{Leaves, AccessWarns, return_with_access, return_without_access, on_twice, safe_turns_off, popf}
 use Rattle.option_law.specs.Access.{below_top, top_of}
-use Rattle.unwinding_law.proofs.Shadow.{IsSlotChange, no_frame, top}
+use Rattle.unwinding_law.proofs.Shadow.{IsTopChange}
+use Rattle.unwinding_law.proofs.Shadow as shadow
 
 -- A function stands at a point: with access now, and access when its frame was made. Either it was made as its home expects,
 -- and the point is reached so; or a safe function was entered with access off, and keeps it off.
@@ -30,6 +31,23 @@ AreAtHome p allowed q now (f ∷ fs) homes =
     IsAtHome p allowed q now f.ac (top_of homes)
     × ((call : ℕ) → f.call ≡ Some call → (is_of_call f.slot ≡ true) × AreAtHome p allowed call f.ac fs (below_top homes))
 
+-- The frames are still those: of the top one the point that it came from, if it is a call's, and access when it was made stay.
+pub data IsStill : List Frame → List Frame → Type 0 where
+  no_frame : IsStill [] []
+  same_top : (f g : Frame) (fs : List Frame) → g.ac ≡ f.ac → ((call : ℕ) → g.call ≡ Some call → (from : ℕ) × (f.call ≡ Some from) × (is_of_call f.slot ≡ true → (from ≡ call) × (is_of_call g.slot ≡ true))) → IsStill (f ∷ fs) (g ∷ fs)
+
+pub still_after : (fs gs hs : List Frame) → IsStill fs gs → IsTopChange gs hs → IsStill fs hs
+still_after fs gs hs no_frame shadow.no_frame = no_frame
+still_after fs gs hs (same_top f g rest ac h) (shadow.top g2 rest2 slot cell told e) =
+    same_top f (record g { slot = slot; cell = cell; told = told }) rest ac (λ call k. let r = h call k in (r.0, r.1, λ of. let s = r.2 of in (s.0, e ∙ s.1)))
+
+pub still : (fs : List Frame) → IsStill fs fs
+still [] = no_frame
+still (f ∷ fs) = same_top f f fs refl (λ call k. (call, k, λ of. (refl, of)))
+
+pub still_changed : (fs gs : List Frame) → IsTopChange fs gs → IsStill fs gs
+still_changed fs gs c = still_after fs fs gs (still fs) c
+
 module _ (p : Program) (allowed : Allowances) where
   -- the function of the top frame
   pub at_top : (q : ℕ) (now : Bool) (fs : List Frame) (homes : List Bool) → AreAtHome p allowed q now fs homes → (made : Bool) × IsAtHome p allowed q now made (top_of homes)
@@ -37,9 +55,16 @@ module _ (p : Program) (allowed : Allowances) where
   at_top q now (f ∷ fs) homes h = (f.ac, h.0)
 
   -- it goes elsewhere, to be in another way at home there; the frames below stay
-  pub elsewhere : (q r : ℕ) (now then : Bool) (fs gs : List Frame) (homes : List Bool) → IsSlotChange fs gs → ((made : Bool) → IsAtHome p allowed q now made (top_of homes) → IsAtHome p allowed r then made (top_of homes)) → AreAtHome p allowed q now fs homes → AreAtHome p allowed r then gs homes
+  pub elsewhere : (q r : ℕ) (now then : Bool) (fs gs : List Frame) (homes : List Bool) → IsStill fs gs → ((made : Bool) → IsAtHome p allowed q now made (top_of homes) → IsAtHome p allowed r then made (top_of homes)) → AreAtHome p allowed q now fs homes → AreAtHome p allowed r then gs homes
   elsewhere q r now then fs gs homes no_frame f h = (h.0, f h.0 h.1)
-  elsewhere q r now then fs gs homes (top g rest slot e) f h = (f g.ac h.0, λ call k. let below = h.1 call k in (e ∙ below.0, below.1))
+  elsewhere q r now then fs gs homes (same_top f g rest ac from) go h = (subst (λ (x : Bool). IsAtHome p allowed r then x (top_of homes)) (sym ac) (go f.ac h.0), below)
+    where
+      below : (call : ℕ) → g.call ≡ Some call → (is_of_call g.slot ≡ true) × AreAtHome p allowed call g.ac rest (below_top homes)
+      below call k =
+          let came = from call k in
+          let there = h.1 came.0 came.1 in
+          let same = came.2 there.0 in
+          (same.1, subst (λ (x : Bool). AreAtHome p allowed call x rest (below_top homes)) (sym ac) (subst (λ (x : ℕ). AreAtHome p allowed x f.ac rest (below_top homes)) same.0 there.1))
 
   -- another function takes its place
   pub replaced : (q r : ℕ) (now then home : Bool) (fs : List Frame) (homes : List Bool) → ((made : Bool) → IsAtHome p allowed q now made (top_of homes) → IsAtHome p allowed r then made home) → AreAtHome p allowed q now fs homes → AreAtHome p allowed r then fs (home ∷ below_top homes)

@@ -11,12 +11,12 @@ use Rattle.machine_defs.specs.Program.{Program, entry_points, edge}
 use Rattle.machine_defs.specs.IsProgram.{IsProgram}
 use Rattle.machine_defs.specs.Machine.{Bases, IsPlacement, Standing, Machine, Wrecked, At}
 use Rattle.machine_defs.specs.Hint.{Lands}
-use Rattle.machine_defs.specs.Step.{Step, CallsIn, Returns, TailCalls, ReturnsFromInterrupt, calls_in, returns, tail_calls, interrupted, irets, may_go_back}
+use Rattle.machine_defs.specs.Step.{Step, CallsIn, Returns, TailCalls, ReturnsFromInterrupt, ReturnsFromBreakpoint, calls_in, returns, tail_calls, interrupted, irets, irets_behind, may_go_back}
 use Rattle.machine_defs.specs.Run.{Start, StaysInStack}
 use Rattle.machine_defs.specs.Allowances.{Allowances, EntersFunctions, is_safe}
 use Rattle.machine_defs.specs.Asked.{IsClean}
 
--- the step is an interrupt
+-- the step is an interrupt, or a breakpoint's
 abbrev pub is_interrupt : {p : Program} {bases : Bases} {m n : Machine} → Step p bases m n → Bool
 is_interrupt (interrupted s t u how lands) = true
 is_interrupt _ = false
@@ -36,6 +36,7 @@ keeps_frames (calls_in s t u how lands) = false
 keeps_frames (tail_calls s t u how lands) = false
 keeps_frames (returns s t u how lands) = false
 keeps_frames (irets s t how) = false
+keeps_frames (irets_behind s t u how lands) = false
 keeps_frames _ = true
 
 -- For each frame, the top one first, its home: whether the function is safe that was called, or that a tail call put in its
@@ -43,16 +44,18 @@ keeps_frames _ = true
 -- a step makes of the homes:
 pub data HomesAfter (p : Program) (allowed : Allowances) (bases : Bases) : (m n : Machine) → Step p bases m n → List Bool → List Bool → Type 0 where
   -- a call adds that of its callee
-  after_call : (s t u : Standing) (how : CallsIn p bases s t) (lands : Lands p t u) (homes : List Bool)
+  after_call : (s t u : Standing) (how : CallsIn p bases s t) (lands : Lands p bases t u) (homes : List Bool)
       → HomesAfter p allowed bases (At s) (At u) (calls_in s t u how lands) homes (is_safe p allowed how.entry ∷ homes)
   -- a tail call puts that of its callee in the place of the top one
-  after_tail_call : (s t u : Standing) (how : TailCalls p s t) (lands : Lands p t u) (homes : List Bool)
+  after_tail_call : (s t u : Standing) (how : TailCalls p s t) (lands : Lands p bases t u) (homes : List Bool)
       → HomesAfter p allowed bases (At s) (At u) (tail_calls s t u how lands) homes (is_safe p allowed t.point ∷ below_top homes)
-  -- a return takes the top one off, and so does one from an interrupt
-  after_return : (s t u : Standing) (how : Returns p s t) (lands : Lands p t u) (homes : List Bool)
+  -- a return takes the top one off, and so does one from an interrupt or a breakpoint
+  after_return : (s t u : Standing) (how : Returns p s t) (lands : Lands p bases t u) (homes : List Bool)
       → HomesAfter p allowed bases (At s) (At u) (returns s t u how lands) homes (below_top homes)
   after_iret : (s t : Standing) (how : ReturnsFromInterrupt p s t) (homes : List Bool)
       → HomesAfter p allowed bases (At s) (At t) (irets s t how) homes (below_top homes)
+  after_iret_behind : (s t u : Standing) (how : ReturnsFromBreakpoint p s t) (lands : Lands p bases t u) (homes : List Bool)
+      → HomesAfter p allowed bases (At s) (At u) (irets_behind s t u how lands) homes (below_top homes)
   -- any other step leaves them
   after_others : (m n : Machine) (step : Step p bases m n) (homes : List Bool) → keeps_frames step ≡ true
       → HomesAfter p allowed bases m n step homes homes
@@ -63,7 +66,7 @@ TakesSmap allowed Wrecked = Unit {0}
 TakesSmap allowed (At s) = allowed.lacks_smap s.point ≡ false
 
 -- The runs of which the promise speaks, with the homes of their frames: they begin at an entry, with user access as its function
--- expects it, or at a hint in code of no function, with user access off; no interrupt comes; and where a step leads into a site
+-- expects it, or at a hint in code of no function, with user access off; no interrupt comes, and no breakpoint's; and where a step leads into a site
 -- that has replacements for a processor with SMAP, one of these is taken.
 pub data AccessRun (p : Program) (allowed : Allowances) (bases : Bases) : Machine → List Bool → Type 0 where
   at_entry : (s : Standing) (entry : ℕ) → Start p bases s → IsInStack s.core → Contains p.entries entry → Contains (entry_points p entry) s.point

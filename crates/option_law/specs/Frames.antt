@@ -15,8 +15,8 @@ use Rattle.machine_defs.specs.Asked.{IsClean}
 -- rbp points at the caller's rbp, which stands right below the return address at the frame's top
 pub record HasFramePointer (core : Core) (f : Frame) : Type 0 where
   pub rbp : core.rbp ≡ down f.cfa 16
-  pub saved : Holds core.region core.rbp f.bp
-  pub returns : Holds core.region (up core.rbp 8) f.ra
+  pub saved : Holds core.memory core.rbp f.bp
+  pub returns : Holds core.memory (up core.rbp 8) f.ra
 
 -- At a call that isn't one of `__fentry__`, where nothing has ended the stack and the top frame is a call's, that frame has its
 -- frame pointer.

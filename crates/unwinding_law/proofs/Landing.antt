@@ -38,7 +38,7 @@ hinted_kind : (full : Bool) (address : ℕ) → is_of_call (hinted_slot full add
 hinted_kind true address = refl
 hinted_kind false address = refl
 
-hinted_change : (full : Bool) (address : ℕ) (fs : List Frame) → IsInInterrupt fs → IsShadowChange fs (with_top_slot (λ _. hinted_slot full address) fs)
+pub hinted_change : (full : Bool) (address : ℕ) (fs : List Frame) → IsInInterrupt fs → IsShadowChange fs (with_top_slot (λ _. hinted_slot full address) fs)
 hinted_change full address [] h = unchanged []
 hinted_change full address (f ∷ fs) h = with_top_kind (hinted_slot full address) f fs (hinted_kind full address ∙ sym h)
 
