@@ -1,5 +1,5 @@
 -- What an operation and a hint do to user access.
-use Rattle.std.proofs.Common.{◌≡◌, ◌≢◌, ℕ, ◌==◌, if◌then◌else◌, is_some, Bool, true, false, List, [], ◌∷◌, Option, Some, None, MatchBool, ℤ, refl, sym, ap, ◌∙◌, subst}
+use Rattle.std.proofs.Common.{◌≡◌, ◌≢◌, ℕ, ◌==◌, is_some, Bool, true, false, List, ◌∷◌, Option, Some, None, MatchBool, ℤ, refl, sym, ap, ◌∙◌, subst}
 use Rattle.operation_defs.specs.declared.op.Op.{Op}
 use Rattle.operation_defs.specs.declared.op.Op.TheVariants.{Plain, RegOther, Nop, Endbr, Push, PushReg, PushBp, Pop, PopReg, PopBp, Popf, AddSp, AndSp, AndDrap, LeaSpBp, LeaBpSp, LeaBpRoom, LeaReg, Keep, LeaSpReg, LoadReg, SubSp, SpReg, BackSp, StoreSp, CellSp, PopSp, StoreBp, CopyBp, StoreThrough, LoadBp, Leave, SpOther, BpOther, Call, Hop, CallInd, Jmp, Jcc, JmpInd, Ret, RetImm, Iret, IretNext, Switch, Ud2, Int3, Stac, Clac}
 use Rattle.operation_defs.specs.Made.{register_of}
@@ -11,7 +11,7 @@ use Rattle.state_defs.specs.declared.state.HintState.{HintState}
 use Rattle.state_defs.specs.declared.state.HintState.TheVariants.{Set, Save, Restore}
 use Rattle.state_defs.specs.Address.{shifted}
 use Rattle.state_defs.specs.Region.{Stack, Reads}
-use Rattle.state_defs.specs.Frame.{Held, HoldsNothing, HoldsCell, HoldsBp, Untold, is_of_call, Frame, with_top_slot, with_top_cell, with_top_told, after_save, top_stack, is_top_told_in}
+use Rattle.state_defs.specs.Frame.{Held, HoldsNothing, HoldsCell, HoldsBp, Untold, Frame, with_top_slot, with_top_cell, with_top_told, after_save, top_stack, is_top_told_in}
 use Rattle.state_defs.specs.Effect.{Core, acted, StoresAlone, StoresOrdinarily, WritesPointers, StoresPointer, MakesRoom, SavesInCell, GoesTo, may_switch, is_at_cell, holds_bp, store_saves, Effect}
 use Rattle.machine_defs.specs.Program.{Program, is_call_op, is_local}
 use Rattle.machine_defs.specs.Machine.{Bases, Standing}
@@ -21,7 +21,7 @@ use Rattle.machine_defs.specs.Hint.{IsInInterrupt, Settles, as_it_is, outermost,
 use Rattle.machine_defs.specs.Access.{access_after, access_along}
 use Rattle.unwinding_law.proofs.Landing.{hinted_change}
 use Rattle.unwinding_law.proofs.Settled.{settled_in_interrupt}
-use Rattle.option_law.proofs.Home.{IsStill, no_frame, same_top, still, still_after}
+use Rattle.option_law.proofs.Home.{IsStill, same_top, still, still_after}
 
 access_of : Core → Bool
 access_of c = c.ac

@@ -6,7 +6,3 @@ pub mod Effects
 pub mod Targets
 pub mod Steps
 pub mod Access
-pub mod WorkedProgram
-pub mod WorkedStates
-pub mod WorkedClean
-pub mod WorkedRun

@@ -1,5 +1,5 @@
 -- Each step keeps the frames at home.
-use Rattle.std.proofs.Common.{◌≡◌, ℕ, Bool, true, false, List, [], ◌∷◌, Option, Some, MatchBool, ℤ, refl, sym, ap, ◌∙◌, subst}
+use Rattle.std.proofs.Common.{◌≡◌, ℕ, Bool, true, false, List, [], ◌∷◌, MatchBool, ℤ, refl, sym, ap, ◌∙◌, subst}
 use Rattle.ot_base.specs.declared.place.Place.{Place}
 use Rattle.machine_defs.specs.declared.flow.EdgeKind.TheVariants.{Next, Fixup}
 use Rattle.state_defs.specs.Frame.{Slot, Frame}
@@ -22,7 +22,7 @@ use Rattle.unwinding_law.proofs.Shadow.{effect_shape, effect_no_call}
 use Rattle.unwinding_law.proofs.ComesBack.{out_calls}
 use Rattle.unwinding_law.proofs.Edges.{plain_role, may_go, edge_in, call_next_in}
 use Rattle.unwinding_law.proofs.Backs.{inner_of, comes_back_to}
-use Rattle.option_law.proofs.Home.{IsStill, still_changed, IsAtHome, as_expected, AreAtHome, at_top, elsewhere, replaced, reached_on, entered_home, left_home, popf_off, same_home, next_home}
+use Rattle.option_law.proofs.Home.{still_changed, IsAtHome, as_expected, AreAtHome, at_top, elsewhere, replaced, reached_on, entered_home, left_home, popf_off, same_home, next_home}
 use Rattle.option_law.proofs.Effects.{goes_on_access, local_along, local_stays, call_access, IsLanded, still_same, landed}
 use Rattle.option_law.proofs.Targets.{leaves_there, called_entry, jump_entry, jump_leaves, reached_entry, reached_callee, safe_jump, safe_call}
 

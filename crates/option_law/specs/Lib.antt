@@ -1,4 +1,3 @@
 pub mod Frames
 pub mod Branches
 pub mod Access
-pub mod Worked
