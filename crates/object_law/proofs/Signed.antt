@@ -1,20 +1,23 @@
 -- The numbers in decoded instructions have 64 bits.
-use Rattle.std.proofs.Common.{◌≡◌, ℕ, zero, suc, ◌<◌, ◌^◌, Bool, true, false, not, ◌&&◌, ◌||◌, cond, List, [], ◌∷◌, ◌++◌, length, take, ap, sym, ◌∙◌, arith, subst, pos, negsuc, ℤ}
+use Rattle.std.proofs.Common.{◌≡◌, ℕ, zero, suc, ◌<◌, ◌^◌, Bool, true, false, not, ◌&&◌, ◌||◌, cond, List, [], ◌∷◌, ◌++◌, length, take, drop, ap, sym, arith, subst, pos, negsuc, ℤ}
 use Rattle.std.specs.Prelude.{FitsSigned, Ok, neg_ℤ, slice_index, ◌==◌}
 use Rattle.std.specs.Int.{w8, w32, w64, cast_signed}
 use Rattle.std.proofs.Math.Facts.{sfits_lit, sfits_to_z, sfits_widen}
 use Rattle.byteorder.specs.Endian.{little_number}
 use Rattle.operation_defs.specs.declared.insn.Insn.{Insn}
+use Rattle.operation_defs.specs.declared.op.DrapRegister.{DrapRegister}
+use Rattle.operation_defs.specs.declared.op.DrapRegister.TheVariants.{R10, R13}
 use Rattle.operation_defs.specs.declared.op.Op.{Op}
 use Rattle.operation_defs.specs.declared.op.Op.TheVariants as ops
+use Rattle.operation_defs.specs.Made.{has_register}
 use Rattle.state_defs.specs.Effect.{HasSignedNumber}
 use Rattle.x86_decode.specs.declared.action.Action.{Action}
 use Rattle.x86_decode.specs.declared.action.Action.TheVariants as actions
 use Rattle.x86_decode.specs.declared.fields.Fields.{Fields}
 use Rattle.x86_decode.specs.Action.{action_of}
 use Rattle.x86_decode.specs.Decoding.{Outcome, StandsInFront, decoded, emulated, spelled}
-use Rattle.x86_decode.specs.Fields.{digit, is_at_rbp, is_at_rsp, is_register, modrm, opcode_register, reg_register, rm_register, signed, writes}
-use Rattle.x86_decode.specs.Operation.{address_loaded, arithmetic, copied, group_5, group_7, group_11, jump_table, loaded, operation, operation_by, pop_operand, popped, push_operand, pushed, stored, subtracted, subtracted_by, subtracted_from, written}
+use Rattle.x86_decode.specs.Fields.{digit, is_at_rbp, is_at_rsp, is_register, modrm, opcode_register, reg_register, rm_register, is_at_register, is_near_register, named_written, registers_written, signed}
+use Rattle.x86_decode.specs.Operation.{address_loaded, arithmetic, copied, group_5, group_7, group_11, jump_table, loaded, operation, operation_by, pop_operand, popped, push_operand, pushed, stored, subtracted, subtracted_by, subtracted_from, of_drap, written_besides, written}
 use Rattle.x86_decode.specs.Spelling.{Spells, fields_in, opcode_bytes, optional}
 use Rattle.x86_decode.proofs.Decided.{outcome}
 use Rattle.x86_map.specs.declared.map.Map.{Map}
@@ -54,22 +57,41 @@ either : (b : Bool) (x y : Op) → HasSignedNumber x → HasSignedNumber y → H
 either true x y h k = h
 either false x y h k = k
 
+besides_fits : (registers : ℕ) → HasSignedNumber (written_besides registers)
+besides_fits registers =
+    either (has_register registers 10 || has_register registers 13) (ops.RegOther (has_register registers 10) (has_register registers 13)) ops.Plain tt tt
+
 written_fits : (f : Fields) → HasSignedNumber (written f)
-written_fits f = either (writes f 4) ops.SpOther (cond (writes f 5) ops.BpOther ops.Plain) tt (either (writes f 5) ops.BpOther ops.Plain tt tt)
+written_fits f =
+    let besides = written_besides (registers_written f) in
+    either (has_register (named_written f) 4) ops.SpOther (cond (has_register (named_written f) 5) ops.BpOther besides) tt
+    (either (has_register (named_written f) 5) ops.BpOther besides tt (besides_fits (registers_written f)))
+
+drap_fits : (op : DrapRegister → Op) (register : ℕ) (other : Op) → HasSignedNumber (op R10) → HasSignedNumber (op R13) → HasSignedNumber other → HasSignedNumber (of_drap op register other)
+drap_fits op register other r10 r13 h =
+    either (register == 10) (op R10) (cond (register == 13) (op R13) other) r10 (either (register == 13) (op R13) other r13 h)
 
 pushed_fits : (r : ℕ) → HasSignedNumber (pushed r)
-pushed_fits r = either (r == 5) ops.PushBp ops.Push tt tt
+pushed_fits r =
+    either (r == 5) ops.PushBp (of_drap (λ reg. ops.PushReg reg) r ops.Push) tt (drap_fits (λ reg. ops.PushReg reg) r ops.Push tt tt tt)
 
 popped_fits : (r : ℕ) → HasSignedNumber (popped r)
-popped_fits r = either (r == 5) ops.PopBp (cond (r == 4) ops.SpOther ops.Pop) tt (either (r == 4) ops.SpOther ops.Pop tt tt)
+popped_fits r =
+    let others = of_drap (λ reg. ops.PopReg reg) r ops.Pop in
+    either (r == 5) ops.PopBp (cond (r == 4) ops.PopSp others) tt (either (r == 4) ops.PopSp others tt (drap_fits (λ reg. ops.PopReg reg) r ops.Pop tt tt tt))
+
+zero_fits : FitsSigned w64 (pos 0)
+zero_fits = sfits_lit {w = w64} {z = pos 0} tt
 
 copied_fits : (to from : ℕ) (f : Fields) → HasSignedNumber (copied to from f)
 copied_fits to from f =
-    let third = cond ((to == 4) && not (from == 4)) ops.SpReg (written f) in
+    let fourth = cond ((from == 4) && not (to == 4)) (ops.LeaReg to (pos 0)) (written f) in
+    let third = cond ((to == 4) && not (from == 4)) (ops.SpReg from) fourth in
     let second = cond ((to == 5) && (from == 4)) (ops.LeaBpSp (pos 0)) third in
-    either ((to == 4) && (from == 5)) (ops.LeaSpBp (pos 0)) second (sfits_lit {w = w64} {z = pos 0} tt)
-    (either ((to == 5) && (from == 4)) (ops.LeaBpSp (pos 0)) third (sfits_lit {w = w64} {z = pos 0} tt)
-    (either ((to == 4) && not (from == 4)) ops.SpReg (written f) tt (written_fits f)))
+    either ((to == 4) && (from == 5)) (ops.LeaSpBp (pos 0)) second zero_fits
+    (either ((to == 5) && (from == 4)) (ops.LeaBpSp (pos 0)) third zero_fits
+    (either ((to == 4) && not (from == 4)) (ops.SpReg from) fourth tt
+    (either ((from == 4) && not (to == 4)) (ops.LeaReg to (pos 0)) (written f) zero_fits (written_fits f))))
 
 subtracted_fits : (to from : ℕ) (f : Fields) → HasSignedNumber (subtracted to from f)
 subtracted_fits to from f = either ((to == 4) && not (from == 4)) ops.SubSp (written f) tt (written_fits f)
@@ -104,28 +126,40 @@ arithmetic_fits f fit =
 stored_fits : (f : Fields) → FieldsFit f → HasSignedNumber (stored f)
 unfolding stored
 stored_fits f fit =
-    let at = cond (is_at_rsp f && (reg_register f == 5)) (ops.StoreBp f.displacement) (written f) in
+    let cell = cond (is_at_register f && (reg_register f == 4)) (ops.StoreSp (rm_register f)) (written f) in
+    let at = cond (is_at_rsp f && (reg_register f == 5)) (ops.StoreBp f.displacement) cell in
     either (not (rex_w f.prefixes)) (written f) (cond (is_register f) (copied (rm_register f) (reg_register f) f) at) (written_fits f)
     (either (is_register f) (copied (rm_register f) (reg_register f) f) at (copied_fits (rm_register f) (reg_register f) f)
-    (either (is_at_rsp f && (reg_register f == 5)) (ops.StoreBp f.displacement) (written f) (wide f.displacement fit.displacement) (written_fits f)))
+    (either (is_at_rsp f && (reg_register f == 5)) (ops.StoreBp f.displacement) cell (wide f.displacement fit.displacement)
+    (either (is_at_register f && (reg_register f == 4)) (ops.StoreSp (rm_register f)) (written f) tt (written_fits f))))
 
 loaded_fits : (f : Fields) → FieldsFit f → HasSignedNumber (loaded f)
 unfolding loaded
 loaded_fits f fit =
-    let at = cond (is_at_rsp f && (reg_register f == 5)) (ops.LoadBp f.displacement) (written f) in
+    let fits = wide f.displacement fit.displacement in
+    let drap = of_drap (λ reg. ops.LoadReg reg f.displacement) (reg_register f) (written f) in
+    let frame = cond (is_at_rbp f) drap (written f) in
+    let at = cond (is_at_rsp f && (reg_register f == 5)) (ops.LoadBp f.displacement) frame in
     either (not (rex_w f.prefixes)) (written f) (cond (is_register f) (copied (reg_register f) (rm_register f) f) at) (written_fits f)
     (either (is_register f) (copied (reg_register f) (rm_register f) f) at (copied_fits (reg_register f) (rm_register f) f)
-    (either (is_at_rsp f && (reg_register f == 5)) (ops.LoadBp f.displacement) (written f) (wide f.displacement fit.displacement) (written_fits f)))
+    (either (is_at_rsp f && (reg_register f == 5)) (ops.LoadBp f.displacement) frame fits
+    (either (is_at_rbp f) drap (written f) (drap_fits (λ reg. ops.LoadReg reg f.displacement) (reg_register f) (written f) fits fits (written_fits f)) (written_fits f))))
 
 address_fits : (f : Fields) → FieldsFit f → HasSignedNumber (address_loaded f)
 unfolding address_loaded
 address_fits f fit =
-    let third = cond ((reg_register f == 5) && is_at_rsp f) (ops.LeaBpSp f.displacement) (written f) in
+    let fits = wide f.displacement fit.displacement in
+    let drap = of_drap (λ reg. ops.LeaSpReg reg f.displacement) (rm_register f) (written f) in
+    let fifth = cond (not (reg_register f == 4) && is_at_rsp f) (ops.LeaReg (reg_register f) f.displacement) (written f) in
+    let fourth = cond ((reg_register f == 5) && is_at_rsp f) (ops.LeaBpSp f.displacement) fifth in
+    let third = cond ((reg_register f == 4) && is_near_register f) drap fourth in
     let second = cond ((reg_register f == 4) && is_at_rbp f) (ops.LeaSpBp f.displacement) third in
     either (not (rex_w f.prefixes)) (written f) (cond ((reg_register f == 4) && is_at_rsp f) (ops.AddSp f.displacement) second) (written_fits f)
-    (either ((reg_register f == 4) && is_at_rsp f) (ops.AddSp f.displacement) second (wide f.displacement fit.displacement)
-    (either ((reg_register f == 4) && is_at_rbp f) (ops.LeaSpBp f.displacement) third (wide f.displacement fit.displacement)
-    (either ((reg_register f == 5) && is_at_rsp f) (ops.LeaBpSp f.displacement) (written f) (wide f.displacement fit.displacement) (written_fits f))))
+    (either ((reg_register f == 4) && is_at_rsp f) (ops.AddSp f.displacement) second fits
+    (either ((reg_register f == 4) && is_at_rbp f) (ops.LeaSpBp f.displacement) third fits
+    (either ((reg_register f == 4) && is_near_register f) drap fourth (drap_fits (λ reg. ops.LeaSpReg reg f.displacement) (rm_register f) (written f) fits fits (written_fits f))
+    (either ((reg_register f == 5) && is_at_rsp f) (ops.LeaBpSp f.displacement) fifth fits
+    (either (not (reg_register f == 4) && is_at_rsp f) (ops.LeaReg (reg_register f) f.displacement) (written f) fits (written_fits f))))))
 
 push_fits : (f : Fields) → HasSignedNumber (push_operand f)
 unfolding push_operand
@@ -215,7 +249,8 @@ spelled_fits map bytes insn s = subst HasSignedNumber (sym s.op) (action_fits (a
 
 standing_fits : (map : Map) (bytes : List ℕ) (insn : Insn) → StandsInFront map bytes insn → HasSignedNumber insn.op
 standing_fits map bytes insn (spelled s alone) = spelled_fits map (take insn.len bytes) insn s.1
-standing_fits map bytes insn (emulated e) = subst HasSignedNumber (sym (ap (λ (i : Insn). i.op) e.is ∙ e.plain)) tt
+standing_fits map bytes insn (emulated e) =
+    subst HasSignedNumber (sym (ap (λ (i : Insn). i.op) e.is)) (spelled_fits map (take e.behind.len (drop 5 bytes)) e.behind e.spelled.1)
 
 -- a decoded instruction's number fits
 pub decoded_fits : (map : Map) (bytes : List ℕ) (insn : Insn) → IsBytes bytes → decoded map bytes ≡ Ok insn → HasSignedNumber insn.op
