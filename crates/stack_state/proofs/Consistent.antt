@@ -150,7 +150,7 @@ leave_stays depth None home t c e = refused_then (StaysLive t) _ t e
 leave_stays depth (Some m) Same t c e = refused_then (StaysLive t) _ t e
 leave_stays depth (Some m) (Saved o) t c e = pop_at_stays m o t (saved_bounds depth (Some m) o c).0 e
 
-align_stays : (depth : Depth) (fp : Option ℤ) (home : BpHome) (t : State) → IsConsistentLive depth fp home → align depth fp home ≡ Ok t → StaysLive t
+pub align_stays : (depth : Depth) (fp : Option ℤ) (home : BpHome) (t : State) → IsConsistentLive depth fp home → align depth fp home ≡ Ok t → StaysLive t
 align_stays depth None home t c e = refused_then (StaysLive t) _ t e
 align_stays depth (Some m) Same t c e = absurd (same_has_no_pointer depth m c)
 align_stays depth (Some m) (Saved o) t c e =
@@ -164,7 +164,7 @@ rsp_from_bp_stays k depth (Some m) (Saved o) t c e =
     unless_then (StaysLive t) (int_lt (m -ℤ k) o) _ _ t
     (λ high d. to_live _ _ _ t (saved_known (m -ℤ k) o (Some m) c.fp (saved_bounds depth (Some m) o c).0 (omega (arith, ints, high))) d) e
 
-bp_from_rsp_stays : (k : ℤ) (depth : Depth) (fp : Option ℤ) (home : BpHome) (t : State) → IsConsistentLive depth fp home → bp_from_rsp k depth home ≡ Ok t → StaysLive t
+pub bp_from_rsp_stays : (k : ℤ) (depth : Depth) (fp : Option ℤ) (home : BpHome) (t : State) → IsConsistentLive depth fp home → bp_from_rsp k depth home ≡ Ok t → StaysLive t
 bp_from_rsp_stays k depth fp Same t c e = refused_then (StaysLive t) _ t e
 bp_from_rsp_stays k (AtLeast n) fp (Saved o) t c e = refused_then (StaysLive t) _ t e
 bp_from_rsp_stays k (Known n) fp (Saved o) t c e =
@@ -178,7 +178,7 @@ make_room_stays : (depth : Depth) (fp : Option ℤ) (home : BpHome) (t : State) 
 make_room_stays depth None home t c e = refused_then (StaysLive t) _ t e
 make_room_stays depth (Some m) home t c e = align_stays depth (Some m) home t c e
 
-base_over_room_stays : (k : ℤ) (depth : Depth) (fp : Option ℤ) (home : BpHome) (t : State) → IsConsistentLive depth fp home → base_over_room k depth home ≡ Ok t → StaysLive t
+pub base_over_room_stays : (k : ℤ) (depth : Depth) (fp : Option ℤ) (home : BpHome) (t : State) → IsConsistentLive depth fp home → base_over_room k depth home ≡ Ok t → StaysLive t
 base_over_room_stays k depth fp Same t c e = bp_from_rsp_stays k depth fp Same t c e
 base_over_room_stays k (AtLeast n) fp (Saved o) t c e = bp_from_rsp_stays k (AtLeast n) fp (Saved o) t c e
 base_over_room_stays k (Known n) fp (Saved o) t c e =
@@ -262,7 +262,7 @@ rsp_from_copy_stays reg depth fp home (Some copy) t c e =
     e
 
 -- the move of the frame, without its copy
-frame_stays : (depth : Depth) (fp : Option ℤ) (home : BpHome) (copy : Option SpCopy) (t : State) (op : Op) → IsConsistentLive depth fp home → move_frame depth fp home copy op ≡ Ok t → StaysLive t
+pub frame_stays : (depth : Depth) (fp : Option ℤ) (home : BpHome) (copy : Option SpCopy) (t : State) (op : Op) → IsConsistentLive depth fp home → move_frame depth fp home copy op ≡ Ok t → StaysLive t
 frame_stays depth fp home copy t Push c e = push_stays depth fp home t c e
 frame_stays depth fp home copy t (PushReg reg) c e = push_stays depth fp home t c e
 frame_stays depth fp home copy t Hop c e = push_stays depth fp home t c e

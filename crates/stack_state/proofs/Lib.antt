@@ -4,6 +4,8 @@ pub mod Consistent
 pub mod Depths
 pub mod Kept
 pub mod LiveBacks
+pub mod LiveCopies
+pub mod LiveKeeps
 pub mod LiveMoves
 pub mod LiveSlots
 pub mod LiveSound
