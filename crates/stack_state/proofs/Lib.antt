@@ -25,6 +25,8 @@ pub mod RealignedReads
 pub mod RealignedSlots
 pub mod RealignedSound
 pub mod RealignedSteady
+pub mod RegsOutcomes
+pub mod RegsSound
 pub mod Results
 pub mod Scenes
 pub mod Slots
