@@ -6,6 +6,7 @@ pub mod Kept
 pub mod LiveBacks
 pub mod LiveCopies
 pub mod LiveKeeps
+pub mod LiveMoved
 pub mod LiveMoves
 pub mod LiveSlots
 pub mod LiveSound
@@ -30,6 +31,7 @@ pub mod RegsSound
 pub mod Results
 pub mod Scenes
 pub mod Slots
+pub mod Sound
 pub mod Stays
 pub mod SwitchingConsistent
 pub mod SwitchingPoised

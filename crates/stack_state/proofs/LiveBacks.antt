@@ -1,6 +1,6 @@
 -- The moves of a live state are sound: those by which rsp comes back from a copy of it.
-use Rattle.std.proofs.Common.{◌≡◌, ℕ, true, List, ◌∷◌, ℤ, pos, neg_ℤ, ◌+ℤ◌, ◌-ℤ◌, arith, refl, sym, ap, subst, ◌∙◌}
-use Rattle.std.specs.Prelude.{Option, Some, None, IfSome, Ok, ◌==◌, int_lt}
+use Rattle.std.proofs.Common.{◌≡◌, ℕ, List, ℤ, pos, ◌-ℤ◌, arith, sym, ap, subst, ◌∙◌}
+use Rattle.std.specs.Prelude.{Option, Some, None, Ok, ◌==◌, int_lt}
 use Rattle.std.proofs.lemmas.Bool.{cond-true, eqb-true}
 use Rattle.std.proofs.lemmas.Int.{ints}
 use Rattle.state_defs.specs.declared.state.Depth.{Depth}
@@ -13,7 +13,7 @@ use Rattle.state_defs.specs.declared.state.State.TheVariants.{Live}
 use Rattle.state_defs.specs.Address.{shifted}
 use Rattle.state_defs.specs.Frame.{Frame, number_in}
 use Rattle.state_defs.specs.Effect.{Core}
-use Rattle.state_defs.specs.State.{depth_of, IsConsistentLive, MeansDepth, MeansLive, view_of, register_in}
+use Rattle.state_defs.specs.State.{MeansDepth, MeansLive, view_of}
 use Rattle.state_defs.specs.Move.{to, floor_of, go_to_copy, rsp_from_copy, rsp_from_known, rsp_from_bp_copy, rsp_from_rbp}
 use Rattle.stack_state.proofs.Arrivals.{Scene}
 use Rattle.stack_state.proofs.Depths.{place_moved}

@@ -1,21 +1,21 @@
 -- Where rbp stays, and with it a copy of rsp in a register that an instruction doesn't write.
-use Rattle.std.proofs.Common.{◌≡◌, ◌⊎◌, inl, inr, ℕ, Bool, true, false, cond, ◌&&◌, ◌||◌, List, ℤ, refl, sym, ap, ◌∙◌, subst}
+use Rattle.std.proofs.Common.{◌≡◌, inl, inr, ℕ, Bool, true, false, cond, ◌&&◌, ◌||◌, List, ℤ, refl, sym, ap, ◌∙◌, subst}
 use Rattle.std.specs.Prelude.{Option, Some, None, IfSome, Ok, ◌==◌}
-use Rattle.std.proofs.lemmas.Bool.{cases_Bool, or_parts, eqb-true, eqb-false, cond-true, cond-false}
+use Rattle.std.proofs.lemmas.Bool.{cases_Bool, eqb-true}
 use Rattle.std.proofs.lemmas.Bool.Decides.{when_true, when_false}
 use Rattle.operation_defs.specs.declared.insn.Insn.{Insn}
 use Rattle.operation_defs.specs.declared.op.Op.{Op}
 use Rattle.operation_defs.specs.declared.op.Op.TheVariants.{Plain, RegOther, Nop, Endbr, Push, PushReg, PushBp, Pop, PopReg, PopBp, Popf, AddSp, AndSp, AndDrap, LeaSpBp, LeaBpSp, LeaBpRoom, LeaReg, Keep, LeaSpReg, LoadReg, SubSp, SpReg, BackSp, StoreSp, CellSp, PopSp, StoreBp, CopyBp, StoreThrough, LoadBp, Leave, SpOther, BpOther, Call, Hop, CallInd, Jmp, Jcc, JmpInd, Ret, RetImm, Iret, IretNext, Switch, Ud2, Int3, Stac, Clac}
-use Rattle.operation_defs.specs.Made.{sets_bp, may_write, has_register, is_told, tells_write, follows}
+use Rattle.operation_defs.specs.Made.{sets_bp, may_write, has_register, follows}
 use Rattle.state_defs.specs.declared.state.Depth.{Depth}
 use Rattle.state_defs.specs.declared.state.BpHome.{BpHome}
 use Rattle.state_defs.specs.declared.state.SpCopy.{SpCopy}
 use Rattle.state_defs.specs.declared.state.State.{State}
 use Rattle.state_defs.specs.declared.state.State.TheVariants.{Live}
-use Rattle.state_defs.specs.Frame.{HoldsBp, Frame, Registers, number_in}
+use Rattle.state_defs.specs.Frame.{HoldsBp, Frame, Registers}
 use Rattle.state_defs.specs.Effect.{Core, Effect, SparesRegisters, store_saves}
 use Rattle.state_defs.specs.State.{View, view_of, register_in, held_copy, MeansDepth}
-use Rattle.state_defs.specs.Move.{near_copy, beside_bp, is_near, move_frame}
+use Rattle.state_defs.specs.Move.{move_frame}
 use Rattle.state_defs.specs.Sound.{HoldsBehind}
 use Rattle.stack_state.proofs.Arrivals.{Scene}
 use Rattle.stack_state.proofs.LiveSound.{goes_room, stores_through, moves_frame}

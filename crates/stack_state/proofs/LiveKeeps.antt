@@ -1,13 +1,13 @@
 -- The moves of a live state are sound with its copy of rsp: one that is made, one that is kept, one that is left out.
-use Rattle.std.proofs.Common.{◌≡◌, ℕ, ◌^◌, ◌<◌, Bool, true, false, cond, List, ℤ, pos, neg_ℤ, ◌+ℤ◌, ◌-ℤ◌, ◌≤ℤ◌, arith, refl, sym, ap, subst, ◌∙◌}
+use Rattle.std.proofs.Common.{◌≡◌, ℕ, ◌^◌, ◌<◌, Bool, true, false, cond, List, ℤ, pos, ◌+ℤ◌, ◌-ℤ◌, ◌≤ℤ◌, arith, refl, sym, ap, subst, ◌∙◌}
 use Rattle.std.specs.Prelude.{Option, Some, None, Result, Ok, Err, ◌==◌}
-use Rattle.std.proofs.lemmas.Bool.{cases_Bool, eqb-true, eqb-false, ne_eqb, cond-false}
+use Rattle.std.proofs.lemmas.Bool.{eqb-true, eqb-false, ne_eqb, cond-false}
 use Rattle.std.proofs.lemmas.Bool.Decides.{when_true, when_false}
 use Rattle.std.proofs.lemmas.Int.{ints}
 use Rattle.operation_defs.specs.declared.insn.Insn.{Insn}
 use Rattle.operation_defs.specs.declared.op.Op.TheVariants.{Keep, LeaBpRoom}
 use Rattle.operation_defs.specs.declared.op.Op.{Op}
-use Rattle.operation_defs.specs.Made.{follows, may_write}
+use Rattle.operation_defs.specs.Made.{follows}
 use Rattle.state_defs.specs.declared.state.Depth.{Depth}
 use Rattle.state_defs.specs.declared.state.Depth.TheVariants.{Known, AtLeast}
 use Rattle.state_defs.specs.declared.state.BpHome.{BpHome}
@@ -67,6 +67,19 @@ copied_outcome held copy (Ok (Poised depth fp home)) t after f below e made mean
 copied_outcome held copy (Ok (Switched depth home fp)) t after f below e made means = subst (λ (u : State). Outcome (held_by held u) after f below) (ok_is _ t e) (made (Switched depth home fp) refl)
 copied_outcome held copy (Ok (Drap reg phase)) t after f below e made means = subst (λ (u : State). Outcome (held_by held u) after f below) (ok_is _ t e) (made (Drap reg phase) refl)
 copied_outcome held copy (Err rule) t after f below e made means = refused_then (Outcome (held_by held t) after f below) rule t e
+
+-- a state stays true where a copy that isn't held is left out
+pub held_outcome : (held : ℕ → Bool) (t : State) (after : Core) (f : Frame) (below : List Frame) → Outcome t after f below → Outcome (held_by held t) after f below
+held_outcome held (Live depth fp home copy) after f below (g, same, told) =
+    let means : MeansLive depth fp home copy (view_of after) g = told.means in
+    let cfa : g.cfa ≡ f.cfa = ap (λ (x : Frame). x.cfa) same.same in
+    with_copy_outcome depth fp home copy (held_copy held copy) after f below (g, same, told)
+    (subst (λ (x : ℕ). MeansCopy (held_copy held copy) (view_of after) x) cfa (held_means held copy (view_of after) g.cfa means.copy))
+held_outcome held (Ended kind) after f below o = o
+held_outcome held (Regs full depth trap) after f below o = o
+held_outcome held (Poised depth fp home) after f below o = o
+held_outcome held (Switched depth home fp) after f below o = o
+held_outcome held (Drap reg phase) after f below o = o
 
 pub moved : (copy : Option SpCopy) (r : Result State ℕ) (t : State) → with_copy copy r ≡ Ok t → (u : State) × (r ≡ Ok u)
 moved copy (Ok u) t e = (u, refl)

@@ -1,5 +1,5 @@
 -- Each move of a live state is sound, but for the copy of rsp.
-use Rattle.std.proofs.Common.{◌≡◌, ℕ, Bool, true, false, ◌&&◌, List, ◌∷◌, ℤ, pos, negsuc, ◌+ℤ◌, arith, refl, sym, ap, ◌∙◌}
+use Rattle.std.proofs.Common.{◌≡◌, ℕ, Bool, true, false, ◌&&◌, List, ◌∷◌, ℤ, pos, negsuc, ◌+ℤ◌, arith, refl, ap, ◌∙◌}
 use Rattle.std.specs.Prelude.{Option, Some, None, Ok, ◌==◌}
 use Rattle.std.specs.Option.{option_map_or}
 use Rattle.std.proofs.lemmas.Bool.{eq-eqb, cond-false}
@@ -16,7 +16,7 @@ use Rattle.state_defs.specs.declared.state.SpCopy.{SpCopy}
 use Rattle.state_defs.specs.declared.state.State.{State}
 use Rattle.state_defs.specs.declared.state.State.TheVariants.{Live}
 use Rattle.state_defs.specs.Address.{up, down, shifted}
-use Rattle.state_defs.specs.Region.{Stack, WritesOnly}
+use Rattle.state_defs.specs.Region.{WritesOnly}
 use Rattle.state_defs.specs.Frame.{Held, HoldsNothing, HoldsCell, HoldsBp, Protected, Told, Untold, ToldIn, ToldAt, Frame, listed, with_top_slot, with_top_told, popped_slot, loaded_slot, is_told_in, is_told_at, is_saved_at, pushed_told, read_told}
 use Rattle.state_defs.specs.Effect.{Core, acted, HasSignedNumber, MakesRoom, GoesTo, StoresAlone, StoresPointer, is_at_cell, holds_bp, Effect}
 use Rattle.state_defs.specs.State.{depth_of, with_depth, MeansLive, view_of}

@@ -7,12 +7,11 @@ use Rattle.state_defs.specs.declared.state.SpCopy.{SpCopy}
 use Rattle.state_defs.specs.declared.state.State.{State}
 use Rattle.state_defs.specs.declared.state.State.TheVariants.{Live}
 use Rattle.state_defs.specs.Address.{shifted}
-use Rattle.state_defs.specs.Region.{Memory, Stack}
-use Rattle.state_defs.specs.Frame.{Slot, Told, Untold, Frame, listed, with_top_slot, with_top_told, after_save, saved_slot}
-use Rattle.state_defs.specs.Effect.{Core, IsInStack}
+use Rattle.state_defs.specs.Region.{Memory}
+use Rattle.state_defs.specs.Frame.{Slot, Told, Frame, listed, with_top_slot, with_top_told, after_save, saved_slot}
+use Rattle.state_defs.specs.Effect.{Core}
 use Rattle.state_defs.specs.State.{IsConsistent, IsConsistentLive, MeansDepth, MeansHome, MeansLive, view_of}
 use Rattle.state_defs.specs.Move.{has_near_numbers, to}
-use Rattle.state_defs.specs.Sound.{IsTold}
 use Rattle.stack_state.proofs.Arrivals.{Scene, Outcome}
 use Rattle.stack_state.proofs.Outcomes.{StandsIn, AllHeld, live_outcome, held_at_top, held_lower}
 use Rattle.stack_state.proofs.Results.{to_then}
