@@ -4,3 +4,4 @@ pub mod Counting
 pub mod Levels
 pub mod CopyLemmas
 pub mod CopiesKeep
+pub mod WorkedRun

@@ -15,3 +15,4 @@ pub mod Allowances
 pub mod Access
 pub mod AccessRules
 pub mod Asked
+pub mod Worked
