@@ -24,10 +24,7 @@ use state_defs::State;
 fn may_be_called(state: State) -> bool
     ensures { result ≡ may_be_called_in state }
 {
-    match state {
-        State::Live { .. } | State::Ended(_) => true,
-        State::Regs { .. } => false,
-    }
+    matches!(state, State::Live { .. } | State::Ended(_))
 }
 
 /// Whether a hint tells a call frame, or ends the stack.
