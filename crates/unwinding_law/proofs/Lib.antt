@@ -21,3 +21,7 @@ pub mod Starts
 pub mod Unwind
 pub mod KeptPoints
 pub mod Elements
+pub mod WorkedProgram
+pub mod WorkedStates
+pub mod WorkedRun
+pub mod Unbalanced
