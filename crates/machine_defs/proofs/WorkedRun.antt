@@ -51,7 +51,7 @@ pub called : (p : Program) (bases : Bases) (entry q bp : ℕ) → Contains p.ent
 called p bases entry q bp listed arrives none small outside =
     started (entered q bp)
     (at_entry (entered q bp) (entered q bp) (called_by bp) entry listed arrives
-    (record { ra = 0; cfa = 0x8010; bp = bp; shadow = refl; outside = outside; pushed = refl; below_hi = lit≤ tt })
+    (record { ra = 0; cfa = 0x8010; bp = bp; shadow = refl; outside = outside; pushed = refl; above_lo = lit≤ tt; below_hi = lit≤ tt })
     (record { shadow = refl; cfa = refl; bp = refl })
     (record { ended = refl; mark = refl; held = refl; hinted = entered q bp; lands = lands p bases (entered q bp) none; start = refl }))
     (in_zeros 0x8008 bp (called_by bp ∷ []) (lit≤ tt) (lit≤ tt) small)

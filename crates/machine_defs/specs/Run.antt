@@ -35,7 +35,7 @@ outermost core ra cfa bp slot trap = record {
   mark_caller = None;
 }
 
--- the only frame is one of a call from outside, whose return address is on the stack
+-- the only frame is one of a call from outside, whose return address is on the stack, and whose top lies in it
 pub record WasCalled (p : Program) (bases : Bases) (core : Core) : Type 0 where
   pub ra : ℕ
   pub cfa : ℕ
@@ -43,6 +43,7 @@ pub record WasCalled (p : Program) (bases : Bases) (core : Core) : Type 0 where
   pub shadow : core.shadow ≡ outermost core ra cfa bp Unsaved false ∷ []
   pub outside : IsOutside p bases (down ra 1)
   pub pushed : Reads core.memory (down cfa 8) ra
+  pub above_lo : core.stack.lo ≤ cfa
   pub below_hi : cfa ≤ core.stack.hi
 
 -- it is one of an interrupt that came outside, or of a breakpoint there
