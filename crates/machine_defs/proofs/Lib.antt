@@ -4,4 +4,15 @@ pub mod Counting
 pub mod Levels
 pub mod CopyLemmas
 pub mod CopiesKeep
+pub mod WorkedMemory
 pub mod WorkedRun
+pub mod WorkedSteps
+pub mod WorkedWrecks
+pub mod WorkedHints
+pub mod WorkedWays
+pub mod WorkedWarnings
+pub mod WorkedAccessOff
+pub mod WorkedAccess
+pub mod WorkedSites
+pub mod WorkedLoose
+pub mod WorkedHoles

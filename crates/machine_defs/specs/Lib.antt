@@ -16,3 +16,12 @@ pub mod Access
 pub mod AccessRules
 pub mod Asked
 pub mod Worked
+pub mod WorkedSteps
+pub mod WorkedWrecks
+pub mod WorkedHints
+pub mod WorkedWays
+pub mod WorkedWarnings
+pub mod WorkedSites
+pub mod WorkedLoose
+pub mod WorkedHoles
+pub mod WorkedAccess

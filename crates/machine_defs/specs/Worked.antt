@@ -14,8 +14,8 @@ use Rattle.state_defs.specs.declared.state.EndKind.{EndKind}
 use Rattle.state_defs.specs.declared.state.EndKind.TheVariants.{EndOfStack}
 use Rattle.state_defs.specs.declared.state.State.TheVariants.{Live}
 use Rattle.operation_defs.specs.declared.op.DrapRegister.TheVariants.{R10, R13}
-use Rattle.state_defs.specs.Region.{Region, Stack, word_at}
-use Rattle.state_defs.specs.Frame.{HoldsNothing, Slot, Unsaved, SavedAt, FullAt, PartialAt, Untold, ToldIn, ToldAt, Frame, listed, found, AtEnd, AtRegister, end_of, protected, popped_slot}
+use Rattle.state_defs.specs.Region.{Region, Stack, stack_of, word_at}
+use Rattle.state_defs.specs.Frame.{HoldsNothing, Slot, Unsaved, SavedAt, FullAt, PartialAt, Untold, ToldIn, ToldAt, Frame, listed, found, AtOutermost, AtEnd, AtRegister, end_of, protected, popped_slot}
 use Rattle.state_defs.specs.Effect.{Core}
 use Rattle.state_defs.specs.State.{initial}
 use Rattle.state_defs.specs.Move.{move}
@@ -144,6 +144,7 @@ pub record HasWorkedFrames : Type 0 where
   -- and found down to the first whose top is in a register alone, that one left out
   pub found_to_register : found to_register ≡ frame 1 None ∷ []
   pub register : end_of None to_register ≡ AtRegister R10
+  pub at_outermost : end_of None (frame 1 None ∷ []) ≡ AtOutermost
   -- the protected slots of a call frame whose rbp is saved: the return address and rbp; and of one that has a cell and tells its
   -- top: those two words besides
   pub slots : protected (frame 0x1002 None) ≡ record { at = 0x8008; value = 0x1002 } ∷ record { at = 0x8000; value = 5 } ∷ []
@@ -161,9 +162,12 @@ pub record HasWorkedFrames : Type 0 where
 abbrev pub zeros : Region
 zeros = record { lo = 0x8000; bytes = replicate 16 0 }
 
--- in that stack, with zeros in the general registers
+-- in one stack, with zeros in the general registers
+abbrev pub over : Region → ℕ → ℕ → List Frame → Core
+over r rsp rbp shadow = record { rsp = rsp; rbp = rbp; registers = λ r. 0; memory = r ∷ []; stack = stack_of r; held = HoldsNothing; ac = false; shadow = shadow }
+
 abbrev pub core_at : ℕ → ℕ → List Frame → Core
-core_at rsp rbp shadow = record { rsp = rsp; rbp = rbp; registers = λ r. 0; memory = zeros ∷ []; stack = in_use; held = HoldsNothing; ac = false; shadow = shadow }
+core_at rsp rbp shadow = over zeros rsp rbp shadow
 
 abbrev pub caller : Slot → Frame
 caller slot = outermost (core_at 0 0 []) 0 0x8010 0 slot false

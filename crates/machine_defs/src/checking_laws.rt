@@ -2,6 +2,9 @@
 
 ghost use Rattle.machine_defs.specs.Copies.{CopiesKeepPrograms, StaleIsLeast, WantedIsLeast};
 ghost use Rattle.machine_defs.specs.Kept.{KeptIsOne, KeptStays};
+ghost use Rattle.machine_defs.specs.WorkedAccess.{WarnsWhereAsked};
+ghost use Rattle.machine_defs.specs.WorkedHoles.{LeavesHoles};
+ghost use Rattle.machine_defs.specs.WorkedWarnings.{WarnsOfEach};
 
 /// A point keeps the state that it was first given.
 pub fn kept_stays()
@@ -23,4 +26,19 @@ pub fn levels_are_least()
 /// A program is one, as the laws ask, with what copies of rsp make of its operations.
 pub fn copies_keep_programs()
     ensures { CopiesKeepPrograms }
+{}
+
+/// A warning for each reason.
+pub fn worked_warnings()
+    ensures { WarnsOfEach }
+{}
+
+/// A warning for each reason that an option asks for.
+pub fn worked_access()
+    ensures { WarnsWhereAsked }
+{}
+
+/// What is told of code that no symbol covers.
+pub fn worked_holes()
+    ensures { LeavesHoles }
 {}

@@ -2,6 +2,12 @@
 
 ghost use Rattle.machine_defs.specs.Step.{EndIsTold};
 ghost use Rattle.machine_defs.specs.Worked.{HasWorkedFrames, HasWorkedRows, HasWorkedRun, HasWorkedStates};
+ghost use Rattle.machine_defs.specs.WorkedHints.{RunsFromHints};
+ghost use Rattle.machine_defs.specs.WorkedLoose.{LosesStack};
+ghost use Rattle.machine_defs.specs.WorkedSites.{HintsSites};
+ghost use Rattle.machine_defs.specs.WorkedSteps.{TakesEachStep};
+ghost use Rattle.machine_defs.specs.WorkedWays.{LeadsOn};
+ghost use Rattle.machine_defs.specs.WorkedWrecks.{WrecksEachWay};
 
 /// How the stack has ended behind an instruction is told wherever kept states are.
 pub fn end_is_told()
@@ -18,7 +24,7 @@ pub fn worked_rows()
     ensures { HasWorkedRows }
 {}
 
-/// Frames, their protected slots, and the words of small stacks.
+/// Frames, their protected slots, and the words of a small stack.
 pub fn worked_frames()
     ensures { HasWorkedFrames }
 {}
@@ -26,4 +32,34 @@ pub fn worked_frames()
 /// A run of that function: it starts, and steps.
 pub fn worked_run()
     ensures { HasWorkedRun }
+{}
+
+/// A run that takes each step once.
+pub fn worked_steps()
+    ensures { TakesEachStep }
+{}
+
+/// A stack that is wrecked in each way.
+pub fn worked_wrecks()
+    ensures { WrecksEachWay }
+{}
+
+/// Runs that start at hints, and that pass a SAVE and a RESTORE.
+pub fn worked_hints()
+    ensures { RunsFromHints }
+{}
+
+/// Which points may leave, be called, come back, and stand right before a hint.
+pub fn worked_ways()
+    ensures { LeadsOn }
+{}
+
+/// A hint at a site's start counts for its replacement, as a gate and as a start.
+pub fn worked_sites()
+    ensures { HintsSites }
+{}
+
+/// Loose code loses the stack, and a call of it comes back.
+pub fn worked_loose()
+    ensures { LosesStack }
 {}
