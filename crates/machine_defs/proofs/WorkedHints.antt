@@ -44,7 +44,7 @@ unfolding slot
 kept = record { above = one (λ x. IsAboveIn (stack_of registers) 0x80A0 x.at) (slot 0x80A0 0) (inl (lit≤ tt)); hold = one (λ x. Holds (registers ∷ []) x.at x.value) (slot 0x80A0 0) refl }
 
 was_called : WasCalled hinted base (at_hint 0 0x80A0 called None None).core
-was_called = record { ra = 0; cfa = 0x80A8; bp = 0; shadow = refl; outside = high_outside; pushed = refl; below_hi = lit≤ tt }
+was_called = record { ra = 0; cfa = 0x80A8; bp = 0; shadow = refl; outside = high_outside; pushed = refl; above_lo = lit≤ tt; below_hi = lit≤ tt }
 
 from_call : Run hinted base (At (at_hint 0 0x80A0 called None None))
 from_call =

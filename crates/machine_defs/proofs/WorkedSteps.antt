@@ -28,7 +28,7 @@ starts : Run stepping base (At at_call)
 starts =
     started at_call
     (at_entry at_call at_call frame_of_f 0 (0, lit< tt, refl) (0, lit< tt, refl)
-    (record { ra = 0x2000; cfa = 0x8010; bp = 0; shadow = refl; outside = outside; pushed = refl; below_hi = lit≤ tt })
+    (record { ra = 0x2000; cfa = 0x8010; bp = 0; shadow = refl; outside = outside; pushed = refl; above_lo = lit≤ tt; below_hi = lit≤ tt })
     (record { shadow = refl; cfa = refl; bp = refl })
     (record { ended = refl; mark = refl; held = refl; hinted = at_call; lands = refl; start = refl }))
     (in_stack 0x8008 at_call.core.shadow (lit≤ tt) (lit≤ tt))
