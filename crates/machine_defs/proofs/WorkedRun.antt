@@ -21,7 +21,7 @@ zeros_are_bytes zero = All-nil (λ b. b < 256)
 zeros_are_bytes (suc n) = All-cons (λ b. b < 256) 0 (replicate n 0) (lit< tt) (zeros_are_bytes n)
 
 -- there is one stack
-one_stack : (x one : Stack) → Contains (x ∷ []) one → x ≡ one
+pub one_stack : (x one : Stack) → Contains (x ∷ []) one → x ≡ one
 one_stack x one (zero, l, e) = e
 one_stack x one (suc k, l, e) = absurd (omega (arith, l))
 

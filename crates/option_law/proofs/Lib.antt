@@ -6,3 +6,7 @@ pub mod Effects
 pub mod Targets
 pub mod Steps
 pub mod Access
+pub mod WorkedProgram
+pub mod WorkedStates
+pub mod WorkedClean
+pub mod WorkedRun

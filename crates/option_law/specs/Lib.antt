@@ -1,3 +1,4 @@
 pub mod Frames
 pub mod Branches
 pub mod Access
+pub mod Worked
