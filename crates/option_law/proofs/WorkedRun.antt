@@ -64,7 +64,7 @@ beside address h = go (nat_le 0x8000 address) refl
 start : Start worked base w.at_entry
 start =
     run.at_entry w.at_entry w.at_entry (caller Unsaved) 0 (0, lit< tt, refl) (0, lit< tt, refl)
-    (record { ra = 0; cfa = 0x8018; bp = 0; shadow = refl; outside = outside; pushed = refl; below_hi = lit≤ tt })
+    (record { ra = 0; cfa = 0x8018; bp = 0; shadow = refl; outside = outside; pushed = refl; above_lo = lit≤ tt; below_hi = lit≤ tt })
     (record { shadow = refl; cfa = refl; bp = refl })
     (record { ended = refl; mark = refl; held = refl; hinted = w.at_entry; lands = refl; start = refl })
 
