@@ -5,3 +5,6 @@ pub mod Passing
 pub mod Counts
 pub mod Turning
 pub mod Ends
+pub mod StaleSets
+pub mod WantedSets
+pub mod Held

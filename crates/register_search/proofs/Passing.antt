@@ -8,7 +8,7 @@ use Rattle.operation_defs.specs.Made.{has_register}
 use Rattle.register_search.specs.declared.edges.Edges.{Edges}
 use Rattle.register_search.specs.declared.spread.Spreading.{Spreading}
 use Rattle.register_search.specs.Edges.{Leads, start_of, target_of}
-use Rattle.register_search.specs.Spread.{AddsTo, AreSets, Grows, IsSpreading, PassesOn, Reaches, has, left}
+use Rattle.register_search.specs.Spread.{AddsTo, AreSets, Grows, IsReady, IsSpreading, PassesOn, Reaches, has, left}
 use Rattle.register_search.proofs.Registers.{and_has, and_has_left, and_has_right}
 
 grows_none : (s : Spreading) → Grows s s
@@ -63,17 +63,27 @@ passes_next edges accepts before s t a registers i to from end is so_far adds = 
   ];
 }
 
+-- where sets grow and points wait whose sets have grown, each with any register still waits
+pub still_ready : (s t : Spreading) → IsReady s → Grows s t → IsReady t
+still_ready s t ready grows = record {
+  fits = grows.fits ready.fits;
+  points = subst (λ (n : ℕ). All (λ q. q < n) t.waiting.items) (sym grows.long) (grows.points ready.points);
+  waiting = λ q r h. elim (grows.grown q) [
+    | inl waits ↦ waits
+    | inr same ↦ grows.waiting q (ready.waiting q r (ap (λ (n : ℕ). has_register n r) (sym same) ∙ h))
+  ];
+}
+
 module _ (edges : Edges) (seeds passes accepts : List ℕ) where
   -- at first each point with a seed waits
-  pub spreads_first : (s : Spreading) → s.sets.items ≡ seeds → AreSets s.sets.items → All (λ q. q < length seeds) s.waiting.items
-      → ((q r : ℕ) → has seeds q r ≡ true → Contains s.waiting.items q) → IsSpreading edges seeds passes accepts s
-  spreads_first s sets fits points waits = record {
+  pub spreads_first : (s : Spreading) → s.sets.items ≡ seeds → IsReady s → IsSpreading edges seeds passes accepts s
+  spreads_first s sets ready = record {
     long = ap length sets;
-    fits = fits;
-    points = points;
+    fits = ready.fits;
+    points = subst (λ (xs : List ℕ). All (λ q. q < length xs) s.waiting.items) sets ready.points;
     sound = λ q r h. Reaches.seeded q (subst (λ (xs : List ℕ). has xs q r ≡ true) sets h);
     seeded = λ q r h. subst (λ (xs : List ℕ). has xs q r ≡ true) (sym sets) h;
-    passed = λ a q r leads h passed accepted. inl (waits a r (subst (λ (xs : List ℕ). has xs a r ≡ true) sets h));
+    passed = λ a q r leads h passed accepted. inl (ready.waiting a r h);
   }
 
   -- one that waited is passed on

@@ -1,7 +1,7 @@
 -- Sets of registers as numbers: unions, intersections, and what a set leaves out.
 use Rattle.std.proofs.Common.{w16, ◌≡◌, ℕ, ◌-◌, ◌^◌, ◌<◌, ◌⊎◌, inl, inr, Bool, true, false, not, ◌||◌, ◌&&◌, refl, ap, sym, ◌∙◌, arith, max, min, bit_and, bit_or}
 use Rattle.std.specs.Int.{bit_at, bit_not}
-use Rattle.std.proofs.lemmas.Bool.{cases_eq, cases_lt, cases_Bool, eq-eqb, eqb-true, eqb-false, ne_eqb, false≢true}
+use Rattle.std.proofs.lemmas.Bool.{and_from, and_parts, cases_eq, cases_lt, cases_Bool, eq-eqb, eqb-true, eqb-false, ne_eqb, false≢true, false_from_ne_true}
 use Rattle.std.proofs.lemmas.Nat.Bits.{bit_at-lt, bit_at-zero, bit_at_above, bit_at_and, bit_at_not, bit_at_ones, bit_at_or}
 use Rattle.operation_defs.specs.Made.{has_register}
 
@@ -74,3 +74,20 @@ rest_has n r fits small = elim (cases_Bool (has_register n r)) [
   where
     off : (x : ℕ) → x < 2 → (x ≡ 1 → ⊥) → 1 - x ≡ 1
     off x less other = omega arith
+
+pub and_has_is : (a b r : ℕ) → has_register (bit_and a b) r ≡ (has_register a r && has_register b r)
+and_has_is a b r = elim (cases_Bool (has_register a r && has_register b r)) [
+  | inl both ↦ let parts = and_parts (has_register a r) (has_register b r) both in and_has a b r parts.0 parts.1 ∙ sym both
+  | inr lacks ↦ false_from_ne_true (has_register (bit_and a b) r) (λ e. false≢true (sym lacks ∙ and_from (has_register a r) (has_register b r) (and_has_left a b r e) (and_has_right a b r e))) ∙ sym lacks
+]
+
+-- a set without another
+pub without_has : (a b r : ℕ) → b < 2 ^ 16 → r < 16 → has_register (bit_and a (65535 - b)) r ≡ (has_register a r && not (has_register b r))
+without_has a b r fits small = and_has_is a (65535 - b) r ∙ ap (λ (t : Bool). has_register a r && t) (rest_has b r fits small)
+
+-- tests that pass alike are the same
+pub same_tests : (b c : Bool) → (b ≡ true → c ≡ true) → (c ≡ true → b ≡ true) → b ≡ c
+same_tests b c to from = elim (cases_Bool c) [
+  | inl passes ↦ from passes ∙ sym passes
+  | inr fails ↦ false_from_ne_true b (λ e. false≢true (sym fails ∙ to e)) ∙ sym fails
+]

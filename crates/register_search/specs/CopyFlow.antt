@@ -27,8 +27,7 @@ GoesTo flow a q = Leads flow.edges a q ⊎ ((t : ℕ) × (steps_of flow ≤ t) �
 pub record TellsCopyStep (p : Program) (q : ℕ) (step : CopyStep) : Type 0 where
   pub sets : (r : ℕ) → r < 16 → has_register step.sets r ≡ sets_from_rsp (p.insn q).op r
   pub loses : (r : ℕ) → r < 16 → has_register step.loses r ≡ loses (p.insn q) r
-  -- no operation reads a register beyond the sixteen
-  pub reads : (r : ℕ) → has_register step.reads r ≡ reads_as_rsp (p.insn q).op r
+  pub reads : (r : ℕ) → r < 16 → has_register step.reads r ≡ reads_as_rsp (p.insn q).op r
   pub unknown : step.is_unknown ≡ is_unknown_at p q
   pub free : step.is_free ≡ is_free (p.hint q)
 

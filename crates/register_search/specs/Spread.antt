@@ -46,6 +46,12 @@ pub record PassesOn (edges : Edges) (accepts : List ℕ) (before after : Spreadi
   pub passed : (i r : ℕ) → start_of edges a ≤ i → i < end → has_register registers r ≡ true → has accepts (target_of edges i) r ≡ true → has after.sets.items (target_of edges i) r ≡ true
   pub alone : (x r : ℕ) → has after.sets.items x r ≡ true → (has before.sets.items x r ≡ true) ⊎ (Leads edges a x × (has_register registers r ≡ true) × (has accepts x r ≡ true))
 
+-- Each point whose set has any register waits.
+pub record IsReady (s : Spreading) : Type 0 where
+  pub fits : AreSets s.sets.items
+  pub points : All (λ q. q < length s.sets.items) s.waiting.items
+  pub waiting : (q r : ℕ) → has s.sets.items q r ≡ true → Contains s.waiting.items q
+
 -- What comes to a point is in its set, as far as it is passed on from points that don't wait; and nothing else is.
 pub record IsSpreading (edges : Edges) (seeds passes accepts : List ℕ) (s : Spreading) : Type 0 where
   pub long : length s.sets.items ≡ length seeds

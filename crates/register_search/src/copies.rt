@@ -1,11 +1,16 @@
 //! Which registers hold copies of rsp at the points of a program.
 
-ghost use Rattle.std.specs.Prelude.{◌≡◌, IfOk, length};
+ghost use Rattle.std.specs.Prelude.{◌≡◌, ◌<◌, ◌≤◌, ◌&&◌, ℕ, true, not, IfOk, length};
+ghost use Rattle.operation_defs.specs.Made.{has_register};
 ghost use Rattle.machine_defs.specs.Copies.{LeadsToPoints};
 ghost use Rattle.machine_defs.specs.Program.{Program};
-ghost use Rattle.register_search.specs.CopyFlow.{HasCopyShape, TellsCopies, TellsCopyFlow, steps_of};
+ghost use Rattle.register_search.specs.Edges.{AreEdges, points_of};
+ghost use Rattle.register_search.specs.Spread.{has};
+ghost use Rattle.register_search.specs.CopyFlow.{HasCopyShape, TellsCopies, TellsCopyFlow, step_at, steps_of};
 
 use crate::edges::Edges;
+use crate::stale::find_stale;
+use crate::wanted::find_wanted;
 use ot_base::NoMemory;
 use std::alloc::Global;
 
@@ -42,6 +47,44 @@ pub struct Copies {
     pub held: Vec<u16>,
 }
 
+/// What happens at a table: nothing.
+const NOTHING: CopyStep = CopyStep {
+    sets: 0,
+    loses: 0,
+    reads: 0,
+    is_unknown: false,
+    is_free: true,
+};
+
+impl CopyFlow {
+    /// How many points there are, with those of tables.
+    pub(crate) fn points(&self) -> usize
+        requires { HasCopyShape self.now }
+        ensures { result ≡ points_of self.now.edges }
+    {
+        self.edges.starts.len() - 1
+    }
+
+    /// What happens at a point.
+    pub(crate) fn step(&self, q: usize) -> CopyStep
+        ensures { result ≡ step_at self.now q }
+    {
+        self.steps.get(q).copied().unwrap_or(NOTHING)
+    }
+}
+
+/// Takes off the registers that are wanted at a point those that are stale there.
+fn take_off(wanted: &mut Vec<u16>, stale: &[u16])
+    requires { length stale.now ≤ length wanted.old.items }
+    ensures long { length wanted.new.items ≡ length wanted.old.items }
+    ensures held { (q r : ℕ) → q < length stale.now → r < 16 → has wanted.new.items q r ≡ (has wanted.old.items q r && not (has stale.now q r)) }
+    ensures fewer { (q r : ℕ) → has wanted.new.items q r ≡ true → has wanted.old.items q r ≡ true }
+{
+    'points: for q in 0..stale.len() {
+        wanted[q] &= !stale[q];
+    }
+}
+
 /// Finds which registers are stale at the points of a program, forwards over its edges, and which are held, by which are wanted,
 /// backwards over them. Each point and each edge is looked at sixteen times at most in each direction, and mostly once.
 // Apart, so that its loops and its callers' share no registers.
@@ -52,7 +95,10 @@ pub fn find_copies(alloc: Global, flow: &CopyFlow) -> Result<Copies, NoMemory>
     ensures held { IfOk result (λ copies. length copies.held.items ≡ steps_of flow.now) }
     ensures told { (p : Program) → TellsCopyFlow p flow.now → LeadsToPoints p → IfOk result (TellsCopies p) }
 {
-    let _alloc = alloc;
-    let _flow = flow;
-    Err(NoMemory)
+    let mut stale = find_stale(alloc, flow)?;
+    let mut held = find_wanted(alloc, flow)?;
+    stale.truncate(flow.steps.len());
+    held.truncate(flow.steps.len());
+    take_off(&mut held, &stale);
+    Ok(Copies { stale, held })
 }

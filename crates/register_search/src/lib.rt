@@ -5,6 +5,8 @@ mod copies;
 mod edges;
 mod reverse;
 mod spread;
+mod stale;
+mod wanted;
 
 pub use copies::{Copies, CopyFlow, CopyStep, find_copies};
 pub use edges::Edges;
