@@ -5,11 +5,12 @@ use Rattle.state_defs.specs.Address.{up, down}
 pub up_down : (x : ℕ) → x < 2 ^ 64 → up (down x 8) 8 ≡ x
 up_down x h = omega arith
 
-pub down_up : (x : ℕ) → x < 2 ^ 64 → down (up x 8) 8 ≡ x
-down_up x h = omega arith
+-- where an address is eight bytes above one in a stack
+pub below_is : (x y : ℕ) → y ≡ up x 8 → x < 2 ^ 64 - 2 ^ 30 → x ≡ down y 8
+below_is x y e h = omega (arith, e)
 
-pub up_inside : (x : ℕ) → x < 2 ^ 64 - 2 ^ 30 → up x 8 ≡ x + 8
-up_inside x h = omega arith
+pub above_is : (x y : ℕ) → y ≡ up x 8 → x < 2 ^ 64 - 2 ^ 30 → y ≡ x + 8
+above_is x y e h = omega (arith, e)
 
 pub up_none : (x : ℕ) → x < 2 ^ 64 → up x 0 ≡ x
 up_none x h = omega arith

@@ -6,7 +6,7 @@ use Rattle.state_defs.specs.declared.state.State.{State}
 use Rattle.state_defs.specs.declared.state.State.TheVariants.{Live, Ended, Regs}
 use Rattle.state_defs.specs.declared.state.HintState.TheVariants.{Set}
 use Rattle.state_defs.specs.Address.{up, down}
-use Rattle.state_defs.specs.Region.{Holds}
+use Rattle.state_defs.specs.Region.{Memory, Stack, IsStackOf, Reads, Holds}
 use Rattle.state_defs.specs.Frame.{Slot, Unsaved, Frame, Mark, Protected, cells, listed, AreKept, IsAboveIn}
 use Rattle.state_defs.specs.Effect.{IsInStack}
 use Rattle.state_defs.specs.State.{initial, view_of, MeansTop}
@@ -18,12 +18,18 @@ use Rattle.machine_defs.specs.Broken.{IsAccepted}
 use Rattle.machine_defs.specs.IsProgram.{IsProgram}
 use Rattle.machine_defs.specs.Law.{GoesOut, AreMarksKept, AreFrames, HasRunInvariant, HasFrameInvariant, IsInOrder}
 use Rattle.machine_defs.specs.Law as law
-use Rattle.stack_state.proofs.Memory.{word_within, read_held}
+use Rattle.stack_state.proofs.Memory.{LiesWithin, word_within, read_held}
 use Rattle.stack_state.proofs.Pushes.{rsp_below_end}
-use Rattle.unwinding_law.proofs.Numbers.{down_up, up_inside}
+use Rattle.unwinding_law.proofs.Numbers.{below_is, above_is}
 use Rattle.unwinding_law.proofs.KeptStates.{entry_kept}
 use Rattle.unwinding_law.proofs.Landing.{IsComing, landed, landed_stack}
 use Rattle.unwinding_law.proofs.Copies.{copied_at_entry}
+
+-- a word that is read in a stack stands there
+read_within : (memory : Memory) (stack : Stack) (address word : ℕ) → IsStackOf memory stack → LiesWithin stack address → Reads memory address word → Holds memory address word
+read_within memory stack address word is inside read =
+    let there : (found : ℕ) × Holds memory address found = word_within memory stack address is inside in
+    there.1 ∙ ap (λ (x : ℕ). Some x) (sym (read_held memory address there.0 word there.1 read))
 
 module _ (p : Program) (bases : Bases) (is : IsProgram p) (acc : IsAccepted p) where
   -- the start is in order where it comes to its hint in order
@@ -64,12 +70,11 @@ module _ (p : Program) (bases : Bases) (is : IsProgram p) (acc : IsAccepted p) w
       let cfa : c.cfa ≡ up t.core.rsp 8 = sym (ap (λ (x : Frame). x.cfa) same) ∙ e.cfa in
       let bp : c.bp ≡ t.core.rbp = sym (ap (λ (x : Frame). x.bp) same) ∙ e.bp in
       let low : t.core.rsp < 2 ^ 64 - 2 ^ 30 = rsp_below_end t.core stack in
-      let rsp : t.core.rsp ≡ down c.cfa 8 = sym (ap (λ (x : ℕ). down x 8) cfa ∙ down_up t.core.rsp (small t.core.rsp low)) in
-      let plain : c.cfa ≡ t.core.rsp + 8 = cfa ∙ up_inside t.core.rsp low in
+      let rsp : t.core.rsp ≡ down c.cfa 8 = below_is t.core.rsp c.cfa cfa low in
+      let plain : c.cfa ≡ t.core.rsp + 8 = above_is t.core.rsp c.cfa cfa low in
       let lo : t.core.stack.lo ≤ down c.cfa 8 = subst (λ (x : ℕ). t.core.stack.lo ≤ x) rsp stack.rsp.from in
       let top : down c.cfa 8 + 8 ≤ t.core.stack.hi = subst (λ (x : ℕ). x + 8 ≤ t.core.stack.hi) rsp (subst (λ (x : ℕ). x ≤ t.core.stack.hi) plain c.below_hi) in
-      let word = word_within t.core.memory t.core.stack (down c.cfa 8) stack.in_use (record { from = lo; upto = top }) in
-      let held : Holds t.core.memory (down c.cfa 8) c.ra = word.1 ∙ ap Some (sym (read_held t.core.memory (down c.cfa 8) word.0 c.ra word.1 c.pushed)) in
+      let held : Holds t.core.memory (down c.cfa 8) c.ra = read_within t.core.memory t.core.stack (down c.cfa 8) c.ra stack.in_use (record { from = lo; upto = top }) c.pushed in
       let means : MeansTop initial (view_of t.core) (o ∷ []) = record { depth = rsp; fp = tt; bp = (refl, sym bp); copy = tt; stack = refl; cell = refl; told = refl } in
       let slots : AreKept t.core.stack t.core.rsp t.core.memory (o ∷ []) = record {
         above = All-cons (λ (x : Protected). IsAboveIn t.core.stack t.core.rsp x.at) (record { at = down c.cfa 8; value = c.ra }) [] (inl (le_of_eq rsp)) (All-nil (λ (x : Protected). IsAboveIn t.core.stack t.core.rsp x.at));
@@ -87,9 +92,6 @@ module _ (p : Program) (bases : Bases) (is : IsProgram p) (acc : IsAccepted p) w
     where
       top_is : f ∷ [] ≡ outermost t.core c.ra c.cfa c.bp Unsaved false ∷ [] → f ≡ outermost t.core c.ra c.cfa c.bp Unsaved false
       top_is h = cc
-
-      small : (x : ℕ) → x < 2 ^ 64 - 2 ^ 30 → x < 2 ^ 64
-      small x a = omega arith
 
   -- at a hint that sets a state nothing is to be told before it
   hinted : (t : Standing) (s : State) → p.hint t.point ≡ Some (Set s) → is_free (p.hint t.point) ≡ true → HasRunInvariant p t
