@@ -16,3 +16,5 @@ pub mod WorkedAccess
 pub mod WorkedSites
 pub mod WorkedLoose
 pub mod WorkedHoles
+pub mod WorkedBreakpoints
+pub mod WorkedCopies

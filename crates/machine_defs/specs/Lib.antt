@@ -25,3 +25,5 @@ pub mod WorkedSites
 pub mod WorkedLoose
 pub mod WorkedHoles
 pub mod WorkedAccess
+pub mod WorkedBreakpoints
+pub mod WorkedCopies

@@ -2,6 +2,8 @@
 
 ghost use Rattle.machine_defs.specs.Step.{EndIsTold};
 ghost use Rattle.machine_defs.specs.Worked.{HasWorkedFrames, HasWorkedRows, HasWorkedRun, HasWorkedStates};
+ghost use Rattle.machine_defs.specs.WorkedBreakpoints.{Breaks};
+ghost use Rattle.machine_defs.specs.WorkedCopies.{KeepsCopies};
 ghost use Rattle.machine_defs.specs.WorkedHints.{RunsFromHints};
 ghost use Rattle.machine_defs.specs.WorkedLoose.{LosesStack};
 ghost use Rattle.machine_defs.specs.WorkedSites.{HintsSites};
@@ -62,4 +64,14 @@ pub fn worked_sites()
 /// Loose code loses the stack, and a call of it comes back.
 pub fn worked_loose()
     ensures { LosesStack }
+{}
+
+/// Copies of rsp: a call gives back some registers and not others, and rsp comes back from those.
+pub fn worked_copies()
+    ensures { KeepsCopies }
+{}
+
+/// A breakpoint goes to its gate, and comes back to what follows it.
+pub fn worked_breakpoints()
+    ensures { Breaks }
 {}
