@@ -18,3 +18,4 @@ pub mod WorkedLoose
 pub mod WorkedHoles
 pub mod WorkedBreakpoints
 pub mod WorkedCopies
+pub mod WorkedStacks

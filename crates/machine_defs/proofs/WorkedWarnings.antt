@@ -16,7 +16,7 @@ use Rattle.machine_defs.specs.Kept.{NotKept, kept_or}
 use Rattle.machine_defs.specs.Broken.{KeptInSite, IsInForce, sibling, outside, anywhere}
 use Rattle.machine_defs.specs.Broken as broken
 use Rattle.machine_defs.specs.Worked.{at}
-use Rattle.machine_defs.specs.WorkedWarnings.{warned, one_byte, five_bytes, pushed, over_words, WarnsOfEach}
+use Rattle.machine_defs.specs.WorkedWarnings.{warned, one_byte, five_bytes, pushed, saved, aligned, over_words, WarnsOfEach}
 
 same_number : (a b : ℕ) → pos a ≡ pos b → a ≡ b
 same_number a b e = cc
@@ -98,6 +98,8 @@ warns = record {
   without_size = broken.without_size (at 30) (0, lit< tt, refl);
   entered_restore = broken.entered_restore 23 23 refl entered (1, lit< tt, refl) (0, lit< tt, refl);
   reached_restore = broken.reached_restore 24 26 initial (edge 26 Next) refl reached (0, refl) (0, lit< tt, refl) refl;
-  relocated_offset = broken.relocated_offset 27 initial (0, refl) refl refl;
+  relocated_offset = broken.relocated_offset 27 pushed (0, refl) refl refl;
+  faults_between = broken.faults_between 28 4 saved (0, refl) (0, lit< tt, refl) refl;
+  calls_between = broken.calls_between 29 aligned (0, refl) refl refl;
   without_frame = broken.without_frame 25 initial refl (0, refl) refl refl refl;
 }

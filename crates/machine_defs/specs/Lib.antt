@@ -27,3 +27,4 @@ pub mod WorkedHoles
 pub mod WorkedAccess
 pub mod WorkedBreakpoints
 pub mod WorkedCopies
+pub mod WorkedStacks

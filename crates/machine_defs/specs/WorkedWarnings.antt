@@ -2,22 +2,24 @@
 use Rattle.std.specs.Prelude.{ℕ, ◌+◌, true, false, List, [], ◌∷◌, Option, Some, None, slice_index_or, filter, pos}
 use Rattle.ot_base.specs.declared.options.Options.{Options}
 use Rattle.ot_base.specs.declared.place.Place.{Place}
-use Rattle.ot_base.specs.declared.rules.TheConstants.{BAD_BRANCH_TARGET, FALLS_THROUGH, RUNS_OFF_SECTION, STATE_MISMATCH, MODIFIED_RETURN, MODIFIED_SIBLING_CALL, UNSUPPORTED_SP_WRITE, OFFSET_OUT_OF_RANGE, ALTERNATIVES_DISAGREE, JUMP_INTO_SITE, EXIT_NOT_ALLOWED, CALL_INTO_FUNCTION, FUNCTION_WITHOUT_SIZE, RESTORE_WITHOUT_SAVE, RELOCATED_STACK_OFFSET, CALL_WITHOUT_FRAME}
+use Rattle.ot_base.specs.declared.rules.TheConstants.{BAD_BRANCH_TARGET, FALLS_THROUGH, RUNS_OFF_SECTION, STATE_MISMATCH, MODIFIED_RETURN, MODIFIED_SIBLING_CALL, UNSUPPORTED_SP_WRITE, STACK_POINTER_LOST, OFFSET_OUT_OF_RANGE, ALTERNATIVES_DISAGREE, JUMP_INTO_SITE, EXIT_NOT_ALLOWED, CALL_INTO_FUNCTION, FUNCTION_WITHOUT_SIZE, RESTORE_WITHOUT_SAVE, RELOCATED_STACK_OFFSET, CALL_WITHOUT_FRAME}
 use Rattle.ot_base.specs.Places.{same_place}
 use Rattle.operation_defs.specs.declared.op.Op.{Op}
-use Rattle.operation_defs.specs.declared.op.Op.TheVariants.{Nop, Push, SpOther, Call, Jmp, JmpInd, Ret, RetImm, Iret}
+use Rattle.operation_defs.specs.declared.op.Op.TheVariants.{Nop, Push, AddSp, SpOther, Call, Jmp, JmpInd, Ret, RetImm, Iret}
 use Rattle.operation_defs.specs.declared.op.Op.TheVariants as op
 use Rattle.machine_defs.specs.declared.flow.Edge.{Edge}
-use Rattle.machine_defs.specs.declared.flow.EdgeKind.TheVariants.{Next, Sibling}
+use Rattle.machine_defs.specs.declared.flow.EdgeKind.TheVariants.{Next, Fixup, Sibling}
 use Rattle.machine_defs.specs.declared.flow.Marks.{Marks}
 use Rattle.machine_defs.specs.declared.flow.Role.{Role}
 use Rattle.machine_defs.specs.declared.flow.Role.TheVariants.{Plain, CallOut, Return, JumpOut, JumpAny, Switch}
 use Rattle.state_defs.specs.declared.state.BpHome.TheVariants.{Same}
 use Rattle.state_defs.specs.declared.state.Depth.TheVariants.{Known}
+use Rattle.operation_defs.specs.declared.op.DrapRegister.TheVariants.{R10}
+use Rattle.state_defs.specs.declared.state.Phase.TheVariants.{Bare}
 use Rattle.state_defs.specs.declared.state.HintState.{HintState}
 use Rattle.state_defs.specs.declared.state.HintState.TheVariants.{Set, Restore}
 use Rattle.state_defs.specs.declared.state.State.{State}
-use Rattle.state_defs.specs.declared.state.State.TheVariants.{Live, Regs}
+use Rattle.state_defs.specs.declared.state.State.TheVariants.{Live, Regs, Poised, Drap}
 use Rattle.state_defs.specs.State.{initial}
 use Rattle.machine_defs.specs.Program.{Program, Site, below, edge, no_marks}
 use Rattle.machine_defs.specs.Broken.{Warns, IsBroken}
@@ -45,6 +47,13 @@ marked off marks = record (fault off Nop Plain [] initial) { marks = marks }
 -- 8 bytes are pushed; and all that is known over the five words of an interrupt
 abbrev pub pushed : State
 pushed = Live (Known (pos 16)) None Same None
+
+-- rsp was just saved in a cell of another stack; and the frame's top is in r10 alone
+abbrev pub saved : State
+saved = Poised (Known (pos 8)) None Same
+
+abbrev pub aligned : State
+aligned = Drap R10 (Bare (pos 8))
 
 abbrev pub over_words : State
 over_words = Regs false (pos 0) false
@@ -78,11 +87,13 @@ faults =
     ∷ fault 26 Nop Plain (edge 26 Next ∷ []) initial
     ∷ fault 27 (Call (pos 0)) (CallOut 1) [] initial
     ∷ record (fault 28 Nop Plain [] initial) { hint = Some Restore }
-    ∷ marked 29 (record no_marks { relocated = true })
+    ∷ record (marked 29 (record no_marks { relocated = true })) { op = AddSp (pos 8); hint = Some (Set pushed) }
+    ∷ fault 31 Nop Plain (edge 4 Fixup ∷ []) saved
+    ∷ fault 32 (Call (pos 0)) (CallOut 1) [] aligned
     ∷ []
 
 abbrev pub point : ℕ → WorkedFault
-point q = slice_index_or faults q (marked 30 no_marks)
+point q = slice_index_or faults q (marked 33 no_marks)
 
 -- the replacements stand in section 2, at the same offsets
 abbrev pub place : ℕ → Place
@@ -97,7 +108,7 @@ five_bytes = record { start = at 14; len = 5 }
 
 abbrev pub warned : Program
 warned = record framed {
-  count = 28;
+  count = 30;
   insn = λ q. insn (point q).op (point q).len;
   place = place;
   address = λ q. at (point q).off;
@@ -108,10 +119,10 @@ warned = record framed {
   goes = λ q. (point q).goes;
   role = λ q. (point q).role;
   marks = λ q. (point q).marks;
-  arrive = λ wanted. filter (λ q. same_place (place q) wanted) (below 28);
+  arrive = λ wanted. filter (λ q. same_place (place q) wanted) (below 30);
   entries = 4 ∷ 23 ∷ [];
   sites = one_byte ∷ five_bytes ∷ [];
-  texts = record { sec = 1; size = 30 } ∷ record { sec = 2; size = 19 } ∷ [];
+  texts = record { sec = 1; size = 33 } ∷ record { sec = 2; size = 19 } ∷ [];
   unsized = at 30 ∷ [];
 }
 
@@ -150,4 +161,7 @@ pub record WarnsOfEach : Type 0 where
   pub entered_restore : WarnsAt (at 25) RESTORE_WITHOUT_SAVE
   pub reached_restore : WarnsAt (at 28) RESTORE_WITHOUT_SAVE
   pub relocated_offset : WarnsAt (at 29) RELOCATED_STACK_OFFSET
+  -- it may fault right behind a store of rsp in a cell, or calls while the frame's top is in a register alone
+  pub faults_between : WarnsAt (at 31) STACK_POINTER_LOST
+  pub calls_between : WarnsAt (at 32) STACK_POINTER_LOST
   pub without_frame : IsBroken warned with_frames (at 27) CALL_WITHOUT_FRAME (pos 0) (pos 0)

@@ -7,6 +7,7 @@ ghost use Rattle.machine_defs.specs.WorkedCopies.{KeepsCopies};
 ghost use Rattle.machine_defs.specs.WorkedHints.{RunsFromHints};
 ghost use Rattle.machine_defs.specs.WorkedLoose.{LosesStack};
 ghost use Rattle.machine_defs.specs.WorkedSites.{HintsSites};
+ghost use Rattle.machine_defs.specs.WorkedStacks.{Switches};
 ghost use Rattle.machine_defs.specs.WorkedSteps.{TakesEachStep};
 ghost use Rattle.machine_defs.specs.WorkedWays.{LeadsOn};
 ghost use Rattle.machine_defs.specs.WorkedWrecks.{WrecksEachWay};
@@ -74,4 +75,9 @@ pub fn worked_copies()
 /// A breakpoint goes to its gate, and comes back to what follows it.
 pub fn worked_breakpoints()
     ensures { Breaks }
+{}
+
+/// A function goes to another stack, calls there, and comes back.
+pub fn worked_stacks()
+    ensures { Switches }
 {}
