@@ -53,7 +53,8 @@ pub(crate) fn push_target(
             let name = symbol_text(object, sym);
             push_text(&format!(in alloc; " out to {name}")?, into)
         }
-        Role::CallAny | Role::JumpAny => push_text(" to anywhere", into),
+        Role::CallAny => push_text(" to anywhere", into),
+        Role::JumpAny => push_text(" to anywhere", into),
         Role::Return => push_text(" to the caller", into),
     }
 }

@@ -7,6 +7,7 @@ mod headings;
 mod lines;
 mod operations;
 mod points;
+mod registers;
 mod states;
 
 pub use lines::{is_listed, push_part};

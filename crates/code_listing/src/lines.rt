@@ -15,7 +15,7 @@ use crate::points::{VariantWords, place_text};
 use crate::states::push_state;
 use elf_objects::Object;
 use kept_states::Kept;
-use operation_defs::Insn;
+use operation_defs::Op;
 use ot_base::{Names, NoMemory, PlaceText};
 use program_graph::Graph;
 use std::fmt;
@@ -49,7 +49,8 @@ impl fmt::Display for Running<'_> {
 struct InsnText<'a> {
     place: PlaceText<'a>,
     running: Running<'a>,
-    insn: Insn,
+    len: u8,
+    op: Op,
 }
 
 impl fmt::Display for InsnText<'_> {
@@ -61,16 +62,16 @@ impl fmt::Display for InsnText<'_> {
 
     ghost output = { λ i. Some (codes "  " ++ place_text i.place.section.now i.place.off
         ++ (if i.running.variant == 0 then [] else variant_words i.running.variant ++ codes " at " ++ place_text i.running.at.section.now i.running.at.off)
-        ++ codes " length " ++ decimal i.insn.len ++ codes ": " ++ operation_words i.insn.op) };
+        ++ codes " length " ++ decimal i.len ++ codes ": " ++ operation_words i.op) };
 
     fn fmt<W: fmt::Write>(&self, f: &mut fmt::Formatter<W>) -> fmt::Result {
         let InsnText {
             place,
             running,
-            insn,
+            len,
+            op,
         } = *self;
-        let len = insn.len;
-        let op = OperationWords(insn.op);
+        let op = OperationWords(op);
         write!(f, "  {place}{running} length {len}: {op}")
     }
 }
@@ -83,7 +84,8 @@ fn insn_of<'o>(object: &'o Object<'_>, graph: &Graph, n: u32) -> InsnText<'o>
     ensures variant { (p : Program) → Tells p graph.now.parts → result.running.variant ≡ p.variant n }
     ensures at_section { (p : Program) → Tells p graph.now.parts → result.running.at.section.now ≡ (section_at object.now (p.address n).sec).name }
     ensures at_off { (p : Program) → Tells p graph.now.parts → result.running.at.off ≡ (p.address n).off }
-    ensures insn { (p : Program) → Tells p graph.now.parts → result.insn ≡ p.insn n }
+    ensures len { (p : Program) → Tells p graph.now.parts → result.len ≡ (p.insn n).len }
+    ensures op { (p : Program) → Tells p graph.now.parts → result.op ≡ (p.insn n).op }
 {
     InsnText {
         place: place_text(object, graph.place(n)),
@@ -91,7 +93,8 @@ fn insn_of<'o>(object: &'o Object<'_>, graph: &Graph, n: u32) -> InsnText<'o>
             variant: graph.variant(n),
             at: place_text(object, graph.address(n)),
         },
-        insn: graph.insn(n),
+        len: graph.len(n),
+        op: graph.op(n),
     }
 }
 

@@ -1,20 +1,21 @@
 //! The words of stack states.
 
-ghost use Rattle.std.specs.Prelude.{◌≡◌, ◌++◌, [], OnErr, OnOk, Some, codes, if◌then◌else◌};
+ghost use Rattle.std.specs.Prelude.{◌≡◌, ◌++◌, None, OnErr, OnOk, Some};
 ghost use Rattle.ot_base.specs.PlaceText.{with_sign};
-ghost use Rattle.ot_base.specs.RowText.{kind_name, register_name};
-ghost use Rattle.state_defs.specs.Row.{bp_offset_of, bp_reg_of, end_number, row_of, sp_offset_of, sp_reg_of};
-ghost use Rattle.code_listing.specs.States.{besides_row, frame_words, kept_words, state_words};
+ghost use Rattle.ot_base.specs.RowText.{kind_name, register_name, row_words};
+ghost use Rattle.state_defs.specs.Row.{bp_offset_of, bp_reg_of, end_number, live_row, row_of, sp_offset_of, sp_reg_of};
+ghost use Rattle.code_listing.specs.States.{base_words, copy_words, depth_number, depth_words, kept_words, phase_words, state_words, wide_words};
 
+use crate::registers::{drap_word, register_word};
 use ot_base::NoMemory;
-use state_defs::{BpHome, Depth, EndKind, State};
+use state_defs::{BpHome, Depth, EndKind, Phase, SpCopy, State};
 use std::fmt;
 
 /// What a frame's top or a saved rbp is counted from, and how many bytes it lies above that.
 #[derive(Clone, Copy)]
-struct Base {
-    register: &'static str,
-    offset: i128,
+pub(crate) struct Base {
+    pub(crate) register: &'static str,
+    pub(crate) offset: i128,
 }
 
 /// From nothing.
@@ -39,15 +40,15 @@ impl fmt::Display for Base {
 
 /// The words of a row, with its offsets as whole numbers.
 #[derive(Clone, Copy)]
-struct WideRow {
-    kind: &'static str,
-    top: Base,
-    home: Base,
-    signal: bool,
+pub(crate) struct WideRow {
+    pub(crate) kind: &'static str,
+    pub(crate) top: Base,
+    pub(crate) home: Base,
+    pub(crate) signal: bool,
 }
 
 impl fmt::Display for WideRow {
-    ghost output = { λ r. Some (r.kind.now ++ codes " cfa " ++ (r.top.register.now ++ with_sign r.top.offset) ++ codes " bp " ++ (r.home.register.now ++ with_sign r.home.offset) ++ (if r.signal then codes " signal" else [])) };
+    ghost output = { λ r. Some (wide_words r) };
 
     fn fmt<W: fmt::Write>(&self, f: &mut fmt::Formatter<W>) -> fmt::Result {
         let WideRow {
@@ -105,75 +106,132 @@ fn end_word(kind: EndKind) -> &'static str
     }
 }
 
-/// The words of a state's row.
-#[tactic(auto, unfolding(ot_base::specs::RowText::kind_name, ot_base::specs::RowText::register_name))]
-fn row_of(state: State) -> WideRow
-    ensures kind { result.kind.now ≡ kind_name (row_of state).kind }
-    ensures top { result.top.register.now ≡ register_name (row_of state).sp_reg }
-    ensures offset { result.top.offset ≡ (row_of state).sp_offset }
-    ensures home { result.home.register.now ≡ register_name (row_of state).bp_reg }
-    ensures home_offset { result.home.offset ≡ (row_of state).bp_offset }
-    ensures signal { result.signal ≡ (row_of state).signal }
+/// The words of a row in a call frame, by rsp or rbp.
+#[tactic(auto, unfolding(ot_base::specs::RowText::kind_name, ot_base::specs::RowText::row_words))]
+fn live_row(depth: Depth, fp: Option<i64>, bp: BpHome) -> WideRow
+    ensures { wide_words result ≡ row_words (live_row depth fp bp) }
 {
-    match state {
-        State::Live { depth, fp, bp } => WideRow {
-            kind: "call",
-            top: top_of(depth, fp),
-            home: home_of(bp),
-            signal: false,
-        },
-        State::Ended(kind) => WideRow {
-            kind: end_word(kind),
-            top: NOWHERE,
-            home: NOWHERE,
-            signal: false,
-        },
-        State::Regs { full, depth } => WideRow {
-            kind: if full { "regs" } else { "partial" },
-            top: Base {
-                register: "sp",
-                offset: i128::from(depth),
-            },
-            home: NOWHERE,
-            signal: true,
-        },
+    WideRow {
+        kind: "call",
+        top: top_of(depth, fp),
+        home: home_of(bp),
+        signal: false,
     }
 }
 
-/// How far rsp is below the frame's top, where a state's row doesn't tell it.
-#[derive(Clone, Copy)]
-struct BesidesRow(State);
+/// The words of a row over saved registers.
+#[tactic(auto, unfolding(ot_base::specs::RowText::kind_name, ot_base::specs::RowText::register_name, ot_base::specs::RowText::row_words))]
+fn regs_row(full: bool, depth: i64, trap: bool) -> WideRow
+    ensures { wide_words result ≡ row_words (row_of (State.Regs full depth trap)) }
+{
+    WideRow {
+        kind: if full { "regs" } else { "partial" },
+        top: Base {
+            register: "sp",
+            offset: i128::from(depth),
+        },
+        home: NOWHERE,
+        signal: !trap,
+    }
+}
 
-impl fmt::Display for BesidesRow {
-    ghost output = { λ b. Some (besides_row b.0) };
+/// The words of a row on another stack.
+#[tactic(auto, unfolding(ot_base::specs::RowText::kind_name, ot_base::specs::RowText::register_name, ot_base::specs::RowText::row_words))]
+fn switched_row(depth: i64, bp: BpHome) -> WideRow
+    ensures { wide_words result ≡ row_words (row_of (State.Switched depth bp None)) }
+{
+    WideRow {
+        kind: "call",
+        top: Base {
+            register: "(sp)",
+            offset: i128::from(depth),
+        },
+        home: home_of(bp),
+        signal: false,
+    }
+}
+
+/// How many bytes an address is below the frame's top, or at least is.
+#[derive(Clone, Copy)]
+struct DepthNumber(Depth);
+
+impl fmt::Display for DepthNumber {
+    ghost output = { λ d. Some (depth_number d.0) };
 
     fn fmt<W: fmt::Write>(&self, f: &mut fmt::Formatter<W>) -> fmt::Result {
         match self.0 {
-            State::Live {
-                depth: Depth::Known(depth),
-                fp: Some(_),
-                ..
-            } => write!(f, " depth {depth}"),
-            State::Live {
-                depth: Depth::AtLeast(depth),
-                ..
-            } => write!(f, " depth at least {depth}"),
-            _ => Ok(()),
+            Depth::Known(depth) => write!(f, "{depth}"),
+            Depth::AtLeast(depth) => write!(f, "at least {depth}"),
         }
     }
 }
 
-/// The words of a state in a frame.
+/// How far rsp is below the frame's top, where a row doesn't tell it.
 #[derive(Clone, Copy)]
-struct FrameWords(State);
+struct DepthWords {
+    depth: Depth,
+    fp: Option<i64>,
+}
 
-impl fmt::Display for FrameWords {
-    ghost output = { λ s. Some (frame_words s.0) };
+impl fmt::Display for DepthWords {
+    ghost output = { λ d. Some (depth_words d.depth d.fp) };
 
     fn fmt<W: fmt::Write>(&self, f: &mut fmt::Formatter<W>) -> fmt::Result {
-        let row = row_of(self.0);
-        let besides = BesidesRow(self.0);
-        write!(f, "{row}{besides}")
+        match (self.depth, self.fp) {
+            (Depth::Known(_), None) => Ok(()),
+            _ => write!(f, " depth {}", DepthNumber(self.depth)),
+        }
+    }
+}
+
+/// Where a copy of rsp is, if there is one.
+#[derive(Clone, Copy)]
+struct CopyWords(Option<SpCopy>);
+
+impl fmt::Display for CopyWords {
+    ghost output = { λ c. Some (copy_words c.0) };
+
+    fn fmt<W: fmt::Write>(&self, f: &mut fmt::Formatter<W>) -> fmt::Result {
+        match self.0 {
+            None => Ok(()),
+            Some(copy) => {
+                let register = register_word(copy.reg);
+                let depth = DepthNumber(copy.depth);
+                write!(f, ", copy {register} {depth}")
+            }
+        }
+    }
+}
+
+/// How far rbp is below the frame's top, where it is its base, on another stack.
+#[derive(Clone, Copy)]
+struct BaseWords(Option<i64>);
+
+impl fmt::Display for BaseWords {
+    ghost output = { λ b. Some (base_words b.0) };
+
+    fn fmt<W: fmt::Write>(&self, f: &mut fmt::Formatter<W>) -> fmt::Result {
+        match self.0 {
+            None => Ok(()),
+            Some(base) => write!(f, " base {base}"),
+        }
+    }
+}
+
+/// How far a function has come that aligns rsp.
+#[derive(Clone, Copy)]
+struct PhaseWords(Phase);
+
+impl fmt::Display for PhaseWords {
+    ghost output = { λ p. Some (phase_words p.0) };
+
+    fn fmt<W: fmt::Write>(&self, f: &mut fmt::Formatter<W>) -> fmt::Result {
+        match self.0 {
+            Phase::Bare { depth } => write!(f, " bare {depth}"),
+            Phase::Pushed { size } => write!(f, " pushed {size}"),
+            Phase::Framed { size } => write!(f, " framed {size}"),
+            Phase::Homed { size, home } => write!(f, " homed {size} at {home}"),
+        }
     }
 }
 
@@ -188,7 +246,37 @@ impl fmt::Display for StateWords {
     fn fmt<W: fmt::Write>(&self, f: &mut fmt::Formatter<W>) -> fmt::Result {
         match self.0 {
             State::Ended(kind) => write!(f, "ended: {}", end_word(kind)),
-            State::Live { .. } | State::Regs { .. } => write!(f, "{}", FrameWords(self.0)),
+            State::Live {
+                depth,
+                fp,
+                bp,
+                copy,
+            } => {
+                let row = live_row(depth, fp, bp);
+                let depth = DepthWords { depth, fp };
+                let copy = CopyWords(copy);
+                write!(f, "{row}{depth}{copy}")
+            }
+            State::Regs { full, depth, trap } => {
+                let row = regs_row(full, depth, trap);
+                let trap = if trap { " trap" } else { "" };
+                write!(f, "{row}{trap}")
+            }
+            State::Poised { depth, fp, bp } => {
+                let row = live_row(depth, fp, bp);
+                let depth = DepthWords { depth, fp };
+                write!(f, "poised {row}{depth}")
+            }
+            State::Switched { depth, bp, fp } => {
+                let row = switched_row(depth, bp);
+                let base = BaseWords(fp);
+                write!(f, "switched {depth} {row}{base}")
+            }
+            State::Drap { reg, phase } => {
+                let register = drap_word(reg);
+                let phase = PhaseWords(phase);
+                write!(f, "realigned {register}{phase}")
+            }
         }
     }
 }

@@ -1,4 +1,4 @@
-use Rattle.std.proofs.Common.{◌≡◌, ℕ, List, ◌++◌, sym, subst, rules}
+use Rattle.std.proofs.Common.{sym}
 use Rattle.code_listing.specs.Listing.{line_text}
 use Rattle.code_listing.proofs.Appending.{appended_on, appended_twice}
 use Rattle.code_listing.proofs.lines.push_line.Goals as goal
