@@ -59,6 +59,14 @@ impl Graph {
         }
     }
 
+    /// The parts of which the graph is made.
+    pub fn into_parts(self) -> GraphParts
+        ensures parts { result ≡ self.parts }
+        ensures shape { HaveShape result }
+    {
+        self.parts
+    }
+
     /// How many points there are.
     pub fn points(&self) -> u32
         ensures points { result ≡ length self.now.parts.points.items }

@@ -1,0 +1,8 @@
+//! What copies of rsp, and other stacks, make of the operations of a program, in the parts of its graph.
+#![tactic(auto)]
+
+mod adding;
+mod asking;
+
+pub use adding::add_copies;
+pub use asking::asks;
