@@ -95,7 +95,7 @@ pub slot_is_usual : (s : Slot) (wide : State) → s.is_wide ≡ false → is_usu
 slot_is_usual s wide short = rw short (shape_is_usual s.shape (short_numbers s))
 
 -- a usual state has no copy of rsp
-usual_held : (held : ℕ → Bool) (s : State) → is_usual s ≡ true → held_by held s ≡ s
+pub usual_held : (held : ℕ → Bool) (s : State) → is_usual s ≡ true → held_by held s ≡ s
 usual_held held (Live depth fp bp None) h = refl
 usual_held held (Live depth fp bp (Some copy)) h = absurd (let z : ⊥ = cc in z)
 usual_held held (Ended kind) h = refl

@@ -147,12 +147,12 @@ impl Levels {
         place < self.kept && other_place < self.kept && self.states.are_alike(place, other_place)
     }
 
-    /// Whether it is quickly seen that an operation moves the state of a point to that of another.
+    /// Whether it is quickly seen that an operation moves the state of a point to that of another, which is usual.
     #[inline(always)]
     pub(crate) fn moves_to(&self, op: Op, one: u32, other: u32) -> bool
         requires one { one < length self.now.kept }
         requires other { other < length self.now.kept }
-        ensures { IsTrue result → (s : State) → at self.now.kept one ≡ Some s → (t : State) × (move s op ≡ Ok t) × (at self.now.kept other ≡ Some t) }
+        ensures { IsTrue result → (s : State) → at self.now.kept one ≡ Some s → (t : State) × (move s op ≡ Ok t) × (at self.now.kept other ≡ Some t) × (is_usual t ≡ true) }
     {
         match (self.packed(one), self.packed(other)) {
             (Some(before), Some(after)) => before.quickly_moves_to(op, after),

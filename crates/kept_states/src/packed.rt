@@ -1,7 +1,8 @@
 //! A state as it is handed on.
 
-ghost use Rattle.std.specs.Prelude.{◌≡◌, IsTrue, Ok};
+ghost use Rattle.std.specs.Prelude.{◌≡◌, IsTrue, Ok, true};
 ghost use Rattle.state_defs.specs.Move.{move};
+ghost use Rattle.kept_states.specs.Neutral.{is_usual};
 ghost use Rattle.kept_states.specs.Packed.{state_of};
 
 use crate::slot::Slot;
@@ -40,10 +41,11 @@ impl PackedState {
         }
     }
 
-    /// Whether it is quickly seen that an operation moves the state to another one.
+    /// Whether it is quickly seen that an operation moves the state to another one, which is usual.
     #[inline(always)]
     pub(crate) fn quickly_moves_to(self, op: Op, other: PackedState) -> bool
-        ensures { IsTrue result → move (state_of self) op ≡ Ok (state_of other) }
+        ensures moves { IsTrue result → move (state_of self) op ≡ Ok (state_of other) }
+        ensures usual { IsTrue result → is_usual (state_of other) ≡ true }
     {
         match self.slot.quickly_moved(op) {
             Some(moved) => moved.is_alike(other.slot),

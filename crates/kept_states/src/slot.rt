@@ -146,7 +146,8 @@ impl Slot {
     /// A quick test whether two slots hold the same state, which isn't wide.
     #[inline(always)]
     pub(crate) fn is_alike(self, other: Slot) -> bool
-        ensures { IsTrue result → (wide other_wide : StateValue) → state_in self wide ≡ state_in other other_wide }
+        ensures same { IsTrue result → (wide other_wide : StateValue) → state_in self wide ≡ state_in other other_wide }
+        ensures usual { IsTrue result → (wide : StateValue) → is_usual (state_in other wide) ≡ true }
     {
         !self.is_wide
             && (self.shape == other.shape)

@@ -355,11 +355,11 @@ impl Kept {
         self.levels.is_short(n)
     }
 
-    /// A quick test whether an operation moves the state of a point to that of another: where it says so it does.
+    /// A quick test whether an operation moves the state of a point to that of another, which is usual: where it says so it does.
     pub fn moves_to(&self, op: Op, one: u32, other: u32) -> bool
         requires one { one < length self.now }
         requires other { other < length self.now }
-        ensures { IsTrue result → (s : State) → at self.now one ≡ Some s → (t : State) × (move s op ≡ Ok t) × (at self.now other ≡ Some t) }
+        ensures { IsTrue result → (s : State) → at self.now one ≡ Some s → (t : State) × (move s op ≡ Ok t) × (at self.now other ≡ Some t) × (is_usual t ≡ true) }
     {
         self.levels.moves_to(op, one, other)
     }

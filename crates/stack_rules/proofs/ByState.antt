@@ -3,7 +3,7 @@ use Rattle.std.proofs.Common.{◌≡◌, ◌↔◌, ℕ, Bool, List, inl, inr, t
 use Rattle.std.specs.Prelude.{option_to_list}
 use Rattle.ot_base.specs.declared.warning.Warning.{Warning}
 use Rattle.ot_base.specs.Warnings.{bare_warning}
-use Rattle.machine_defs.specs.declared.flow.EdgeKind.{EdgeKind}
+use Rattle.machine_defs.specs.declared.flow.Edge.{Edge}
 use Rattle.state_defs.specs.declared.state.State.{State}
 use Rattle.state_defs.specs.declared.state.HintState.TheVariants.{Restore}
 use Rattle.machine_defs.specs.Program.{Program}
@@ -42,11 +42,11 @@ module _ (p : Program) (states : List (Option State)) (old new : List Warning) w
   one_brought (Some s) (Some t) e = let same : s ≡ t = cc in ap Some same
 
   -- the one state that an edge brings
-  pub arrival_by : (r : ℕ) (s : State) (after : Result State ℕ) (kind : EdgeKind) (brought : Option State) → IsBrought s after kind brought → Gains old new (ArrivalWarns p states r brought)
-      → Gains old new (λ w. (b : Option State) × IsBrought s after kind b × ArrivalWarns p states r b w)
-  arrival_by r s after kind brought is gains =
-      gains_same old new (ArrivalWarns p states r brought) (λ w. (b : Option State) × IsBrought s after kind b × ArrivalWarns p states r b w) gains
-      (λ w. (λ k. (brought, is, k), λ (b, other, k). subst (λ (x : Option State). ArrivalWarns p states r x w) (one_brought b brought (other ∙ sym is)) k))
+  pub arrival_by : (e : Edge) (s : State) (after : Result State ℕ) (brought : Option State) → IsBrought p s after e brought → Gains old new (ArrivalWarns p states e.to brought)
+      → Gains old new (λ w. (b : Option State) × IsBrought p s after e b × ArrivalWarns p states e.to b w)
+  arrival_by e s after brought is gains =
+      gains_same old new (ArrivalWarns p states e.to brought) (λ w. (b : Option State) × IsBrought p s after e b × ArrivalWarns p states e.to b w) gains
+      (λ w. (λ k. (brought, is, k), λ (b, other, k). subst (λ (x : Option State). ArrivalWarns p states e.to x w) (one_brought b brought (other ∙ sym is)) k))
 
   -- a point, by what it keeps
   pub point_kept : (q : ℕ) (s : State) → at states q ≡ Some s → Gains old new (KeptWarns p states q s) → Gains old new (PointWarns p states q)

@@ -13,9 +13,9 @@ use Rattle.ot_base.specs.Places.{is_before}
 use Rattle.ot_base.specs.Warnings.{numbered_warning}
 use Rattle.state_defs.specs.declared.state.State.{State}
 use Rattle.state_defs.specs.Row.{row_of}
-use Rattle.machine_defs.specs.Program.{Program, Site, IsPoint, is_call_op}
+use Rattle.machine_defs.specs.Program.{Program, Site, IsPoint, is_looked_up_behind}
 use Rattle.machine_defs.specs.IsProgram.{IsLaidOut}
-use Rattle.machine_defs.specs.Broken.{KeptInSite, IsInForce, offset_in, Warns, bad_target, falls_through, runs_off, mismatch, modified_return, drops_bytes, modified_sibling, refused, unfit, variants_disagree, call_disagrees, into_site, unallowed_return, unallowed_sibling, unallowed_switch, unallowed_iret, into_function, without_size, entered_restore, reached_restore, relocated_offset}
+use Rattle.machine_defs.specs.Broken.{KeptInSite, IsInForce, offset_in, Warns, bad_target, falls_through, runs_off, mismatch, modified_return, drops_bytes, modified_sibling, refused, faults_between, calls_between, unfit, variants_disagree, call_disagrees, into_site, unallowed_return, unallowed_sibling, unallowed_switch, unallowed_iret, into_function, without_size, entered_restore, reached_restore, relocated_offset}
 use Rattle.unwinding_law.proofs.Lists.{here, there, cases, nowhere}
 use Rattle.table_law.proofs.Equal.{IsInside, inside_is, is_inside, equal_places, same_row_is}
 use Rattle.program_graph.specs.declared.parts.GraphParts.{GraphParts}
@@ -200,7 +200,7 @@ module _ (p : Program) (parts : GraphParts) (states : List (Option State)) (c : 
         let told : Warns p site.start 12 (pos ((p.address q).off - site.start.off)) (pos 0) = variants_disagree site q r rows.other rows.one own other there (λ same. rows.differ (sym same)) in
         as_one p w (disagreement p site q 0) e (subst (λ (n : ℕ). Warns p site.start 12 (pos (n - site.start.off)) (pos 0)) off told, refl)
 
-    at_end : (w : Warning) → is_call_op (p.insn q).op ≡ true → Disagrees p (at states) points q ((p.insn q).len - 1) w → IsOfSites p w
+    at_end : (w : Warning) → is_looked_up_behind (p.insn q).op ≡ true → Disagrees p (at states) points q ((p.insn q).len - 1) w → IsOfSites p w
     at_end w call ((r, f, rows), (site, of, e)) =
         let some : 1 ≤ (p.insn q).len = some_long q l in
         let off : (p.address q).off + (p.insn q).len - 1 ≡ (p.address q).off + ((p.insn q).len - 1) = omega arith in
@@ -246,7 +246,7 @@ module _ (p : Program) (parts : GraphParts) (states : List (Option State)) (c : 
         )
       ]
 
-  call_found : (site : Site) (q r : ℕ) (s t : State) → KeptInSite p site q s → is_call_op (p.insn q).op ≡ true → IsInForce p site (end_of q) r t → row_of t ≢ row_of s → IsFound (told_at site (end_of q))
+  call_found : (site : Site) (q r : ℕ) (s t : State) → KeptInSite p site q s → is_looked_up_behind (p.insn q).op ≡ true → IsInForce p site (end_of q) r t → row_of t ≢ row_of s → IsFound (told_at site (end_of q))
   call_found site q r s t k call force differ =
       let l : Contains points q = are.all site q s k in
       let n : ℕ = (p.insn q).len - 1 in
@@ -270,6 +270,8 @@ module _ (p : Program) (parts : GraphParts) (states : List (Option State)) (c : 
   telling_found place rule a b (drops_bytes q s k r o h) e = absurd (omega (arith, e))
   telling_found place rule a b (modified_sibling q s k l h) e = absurd (omega (arith, e))
   telling_found place rule a b (refused q r s k h f) e = absurd (refused_otherwise p q s r h e)
+  telling_found place rule a b (faults_between q r s k d h) e = absurd (omega (arith, e))
+  telling_found place rule a b (calls_between q s k o h) e = absurd (omega (arith, e))
   telling_found place rule a b (unfit q s n k h) e = absurd (omega (arith, e))
   telling_found place rule a b (variants_disagree site q r s t k l at_one h) e = pair_found site q r s t k l at_one h
   telling_found place rule a b (call_disagrees site q r s t k o f h) e = call_found site q r s t k o f h

@@ -18,3 +18,4 @@ pub mod OneInForce
 pub mod Disagreeing
 pub mod Pushed
 pub mod Lookups
+pub mod Rows

@@ -7,7 +7,7 @@ use Rattle.ot_base.specs.Places.{is_before}
 use Rattle.ot_base.specs.Warnings.{numbered_warning}
 use Rattle.state_defs.specs.declared.state.State.{State}
 use Rattle.state_defs.specs.Row.{row_of}
-use Rattle.machine_defs.specs.Program.{Program, Site, in_site, is_call_op}
+use Rattle.machine_defs.specs.Program.{Program, Site, in_site, is_looked_up_behind}
 
 -- the place that lies so many bytes behind another
 abbrev pub ahead_of : Place → ℕ → Place
@@ -58,8 +58,8 @@ pub record FitPoint (p : Program) (q : ℕ) : Type 0 where
   pub some : 1 ≤ (p.insn q).len
   pub fits : (site : Site) → IsSiteOf p q site → (p.address q).off + (p.insn q).len ≤ site.start.off + 2 ^ 63
 
--- the warnings at a point: where it begins, and of a call at its last byte
+-- the warnings at a point: where it begins, and of a call or breakpoint at its last byte
 abbrev pub PointDisagrees : Program → (ℕ → Option State) → List ℕ → ℕ → Warning → Type 0
 PointDisagrees p states points q w =
     Disagrees p states points q 0 w
-    ⊎ (is_call_op (p.insn q).op ≡ true × Disagrees p states points q ((p.insn q).len - 1) w)
+    ⊎ (is_looked_up_behind (p.insn q).op ≡ true × Disagrees p states points q ((p.insn q).len - 1) w)

@@ -2,24 +2,24 @@
 use Rattle.std.specs.Prelude.{◌≡◌, ◌≢◌, ℕ, ◌⊎◌, Bool, true, false, List, Option, Some, None, Result, Err, option_to_list, Contains, ℤ, pos}
 use Rattle.ot_base.specs.declared.place.Place.{Place}
 use Rattle.ot_base.specs.declared.warning.Warning.{Warning}
-use Rattle.ot_base.specs.declared.rules.TheConstants.{BAD_BRANCH_TARGET, FALLS_THROUGH, RUNS_OFF_SECTION, STATE_MISMATCH, MODIFIED_RETURN, MODIFIED_SIBLING_CALL, UNSUPPORTED_SP_WRITE, OFFSET_OUT_OF_RANGE, JUMP_INTO_SITE, EXIT_NOT_ALLOWED, CALL_INTO_FUNCTION, FUNCTION_WITHOUT_SIZE, RESTORE_WITHOUT_SAVE, RELOCATED_STACK_OFFSET}
+use Rattle.ot_base.specs.declared.rules.TheConstants.{BAD_BRANCH_TARGET, FALLS_THROUGH, RUNS_OFF_SECTION, STATE_MISMATCH, MODIFIED_RETURN, MODIFIED_SIBLING_CALL, UNSUPPORTED_SP_WRITE, STACK_POINTER_LOST, OFFSET_OUT_OF_RANGE, JUMP_INTO_SITE, EXIT_NOT_ALLOWED, CALL_INTO_FUNCTION, FUNCTION_WITHOUT_SIZE, RESTORE_WITHOUT_SAVE, RELOCATED_STACK_OFFSET}
 use Rattle.ot_base.specs.Warnings.{numbered_warning, bare_warning}
 use Rattle.operation_defs.specs.declared.op.Op.{Op}
 use Rattle.operation_defs.specs.declared.op.Op.TheVariants.{RetImm, Iret, Switch}
 use Rattle.machine_defs.specs.declared.flow.Edge.{Edge}
-use Rattle.machine_defs.specs.declared.flow.EdgeKind.{EdgeKind}
-use Rattle.machine_defs.specs.declared.flow.EdgeKind.TheVariants.{Next, Sibling}
+use Rattle.machine_defs.specs.declared.flow.EdgeKind.TheVariants.{Next, Fixup, Sibling}
 use Rattle.machine_defs.specs.declared.flow.Marks.{Marks}
 use Rattle.machine_defs.specs.declared.flow.Role.{Role}
 use Rattle.machine_defs.specs.declared.flow.Role.TheVariants.{Return, JumpOut, JumpAny}
 use Rattle.state_defs.specs.declared.state.State.{State}
 use Rattle.state_defs.specs.declared.state.HintState.TheVariants.{Restore}
 use Rattle.state_defs.specs.Row.{unfit_offset}
-use Rattle.state_defs.specs.Rules.{is_followed, return_rule, sibling_rule, switch_rule, iret_rule, depth_number}
-use Rattle.machine_defs.specs.Program.{Program}
-use Rattle.machine_defs.specs.Kept.{brought_along, edges_of, is_at_entry, is_free, moved_at}
+use Rattle.state_defs.specs.Rules.{is_followed, is_followed_by, may_call, may_fault, return_rule, sibling_rule, switch_rule, iret_rule, depth_number}
+use Rattle.machine_defs.specs.Program.{Program, is_call_op}
+use Rattle.machine_defs.specs.Kept.{edges_of, is_at_entry, is_free, moved_at}
 use Rattle.machine_defs.specs.Ways.{is_before_hint, may_leave}
 use Rattle.kept_states.specs.LevelStates.{at}
+use Rattle.kept_states.specs.Told.{brought_held}
 
 -- a warning that tells a state's depth
 abbrev pub depth_warning : Place → ℕ → State → Warning
@@ -27,13 +27,13 @@ depth_warning place rule s = numbered_warning place rule (depth_number s) (pos 0
 
 -- 1, 3, 13, 16: what is wrong with where control goes; 19: a relocation on a number by which the state is followed
 -- (of code with this owner, if it has one)
-abbrev pub MarksWarn : Place → State → Option ℕ → Marks → Warning → Type 0
-MarksWarn place s owner marks w =
+abbrev pub MarksWarn : Place → Op → State → Option ℕ → Marks → Warning → Type 0
+MarksWarn place op s owner marks w =
     (marks.bad ≡ true × w ≡ bare_warning place BAD_BRANCH_TARGET)
     ⊎ ((marks.past_end ≡ true × (owner ≡ None → is_followed s ≡ true)) × w ≡ bare_warning place RUNS_OFF_SECTION)
     ⊎ (marks.into_site ≡ true × w ≡ bare_warning place JUMP_INTO_SITE)
     ⊎ (marks.into_function ≡ true × w ≡ bare_warning place CALL_INTO_FUNCTION)
-    ⊎ ((is_followed s ≡ true × marks.relocated ≡ true) × w ≡ bare_warning place RELOCATED_STACK_OFFSET)
+    ⊎ ((is_followed_by op s ≡ true × marks.relocated ≡ true) × w ≡ bare_warning place RELOCATED_STACK_OFFSET)
 
 -- 5, 15: a return, of code that may leave or not
 abbrev pub ReturnWarns : Place → Op → State → Bool → Warning → Type 0
@@ -59,12 +59,13 @@ RoleWarns place op s leaves _ w = ⊥
 abbrev pub RefusalWarns : Place → Result State ℕ → Bool → Warning → Type 0
 RefusalWarns place after before w = (rule : ℕ) × ((after ≡ Err rule) × (rule ≡ UNSUPPORTED_SP_WRITE → before ≡ false)) × (w ≡ bare_warning place rule)
 
--- and the operation is a way out that isn't allowed
+-- and the operation is a way out that isn't allowed; 9: or a call where there may be none
 abbrev pub OperationWarns : Place → Op → State → Result State ℕ → Bool → Warning → Type 0
 OperationWarns place op s after before w =
     RefusalWarns place after before w
     ⊎ ((op ≡ Switch × switch_rule s ≡ Some EXIT_NOT_ALLOWED) × w ≡ bare_warning place EXIT_NOT_ALLOWED)
     ⊎ ((op ≡ Iret × iret_rule s ≡ Some EXIT_NOT_ALLOWED) × w ≡ bare_warning place EXIT_NOT_ALLOWED)
+    ⊎ ((is_call_op op ≡ true × may_call s ≡ false) × w ≡ bare_warning place STACK_POINTER_LOST)
 
 -- 10: the state's row
 abbrev pub RowWarns : Place → State → Warning → Type 0
@@ -82,15 +83,16 @@ ArrivalWarns p states r brought w =
     ⊎ ((u : State) × (at states r ≡ Some u × is_free (p.hint r) ≡ true) × MismatchWarns (p.place r) u brought w)
 
 -- the state that comes along an edge, if one does
-abbrev pub IsBrought : State → Result State ℕ → EdgeKind → Option State → Type 0
-IsBrought s after kind brought = option_to_list brought ≡ brought_along s after kind
+abbrev pub IsBrought : Program → State → Result State ℕ → Edge → Option State → Type 0
+IsBrought p s after e brought = option_to_list brought ≡ brought_held p s after e
 
--- 2, 4, 6, 15, 18: an edge of a point
+-- 2, 4, 6, 9, 15, 18: an edge of a point
 abbrev pub EdgeWarns : Program → List (Option State) → ℕ → State → Edge → Warning → Type 0
 EdgeWarns p states q s e w =
     ((e.kind ≡ Next × p.owner e.to ≢ p.owner q) × w ≡ bare_warning (p.place q) FALLS_THROUGH)
+    ⊎ ((e.kind ≡ Fixup × may_fault s ≡ false) × w ≡ bare_warning (p.place q) STACK_POINTER_LOST)
     ⊎ (e.kind ≡ Sibling × SiblingWarns (p.place q) s (may_leave p q) w)
-    ⊎ ((brought : Option State) × IsBrought s (moved_at p q s) e.kind brought × ArrivalWarns p states e.to brought w)
+    ⊎ ((brought : Option State) × IsBrought p s (moved_at p q s) e brought × ArrivalWarns p states e.to brought w)
 
 -- some edge of a point
 abbrev pub EdgesWarn : Program → List (Option State) → ℕ → State → Warning → Type 0
@@ -99,7 +101,7 @@ EdgesWarn p states q s w = (e : Edge) × Contains (edges_of p q) e × EdgeWarns 
 -- a point that keeps a state
 abbrev pub KeptWarns : Program → List (Option State) → ℕ → State → Warning → Type 0
 KeptWarns p states q s w =
-    MarksWarn (p.place q) s (p.owner q) (p.marks q) w
+    MarksWarn (p.place q) (p.insn q).op s (p.owner q) (p.marks q) w
     ⊎ RoleWarns (p.place q) (p.insn q).op s (may_leave p q) (p.role q) w
     ⊎ OperationWarns (p.place q) (p.insn q).op s (moved_at p q s) (is_before_hint p q) w
     ⊎ RowWarns (p.place q) s w

@@ -14,9 +14,10 @@ use Rattle.state_defs.specs.Move.{has_near_numbers}
 use Rattle.state_defs.specs.Row.{unfit_offset}
 use Rattle.state_defs.specs.Rules.{return_rule, sibling_rule}
 use Rattle.machine_defs.specs.Program.{Program}
-use Rattle.machine_defs.specs.Kept.{brought_along, edges_of, moved_at}
+use Rattle.machine_defs.specs.Kept.{edges_of, moved_at}
 use Rattle.kept_states.specs.LevelStates.{at}
-use Rattle.kept_states.specs.Neutral.{is_neutral}
+use Rattle.kept_states.specs.Neutral.{is_neutral, is_usual}
+use Rattle.kept_states.specs.Told.{brought_held}
 
 -- whether the operation is a way out that a state has to allow
 abbrev pub is_exit : Op → Bool
@@ -45,12 +46,13 @@ ArePassing p states points = (r : ℕ) → IsTrue (contains nat_cmp points r) �
 
 -- the edge of a point with this state stays in the function, and leads to where the state is kept that is brought along it
 abbrev pub Leads : Program → List (Option State) → ℕ → State → Edge → Type 0
-Leads p states q s e = (e.kind ≢ Sibling) × (e.kind ≡ Next × p.owner e.to ≢ p.owner q → ⊥) × ((t : State) × (at states e.to ≡ Some t) × (brought_along s (moved_at p q s) e.kind ≡ t ∷ []))
+Leads p states q s e = (e.kind ≢ Sibling) × (e.kind ≡ Next × p.owner e.to ≢ p.owner q → ⊥) × ((t : State) × (at states e.to ≡ Some t) × (brought_held p s (moved_at p q s) e ≡ t ∷ []))
 
 -- the point is one of these
 pub record IsQuiet (p : Program) (states : List (Option State)) (q : ℕ) : Type 0 where
   pub exit : is_exit (p.insn q).op ≡ false
   pub some : IsSome (at states q)
+  pub usual : (s : State) → at states q ≡ Some s → is_usual s ≡ true
   pub moves : (s : State) → at states q ≡ Some s → (t : State) × (moved_at p q s ≡ Ok t)
   pub fit : (s : State) → at states q ≡ Some s → unfit_offset s ≡ None
   pub stays : stays (p.role q) ≡ true
@@ -61,6 +63,7 @@ pub record IsQuiet (p : Program) (states : List (Option State)) (q : ℕ) : Type
 pub record IsQuietExit (p : Program) (states : List (Option State)) (q : ℕ) : Type 0 where
   pub op : ((p.insn q).op ≡ Ret) ⊎ (is_neutral (p.insn q).op ≡ true)
   pub some : IsSome (at states q)
+  pub usual : (s : State) → at states q ≡ Some s → is_usual s ≡ true
   pub near : (s : State) → at states q ≡ Some s → has_near_numbers s ≡ true
   pub fit : (s : State) → at states q ≡ Some s → unfit_offset s ≡ None
   pub returns : (s : State) → at states q ≡ Some s → return_rule s ≡ None

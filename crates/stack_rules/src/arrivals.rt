@@ -1,7 +1,8 @@
 //! The rules that an edge breaks: where control goes, and what it brings.
 
-ghost use Rattle.std.specs.Prelude.{◌≡◌, ◌≢◌, ◌<◌, ◌↔◌, IsTrue, OnOk, Some, length, option_to_list};
+ghost use Rattle.std.specs.Prelude.{◌≡◌, ◌≢◌, ◌<◌, ◌↔◌, IsTrue, OnOk, Some, false, length, option_to_list};
 ghost use Rattle.state_defs.specs.State.{IsConsistent};
+ghost use Rattle.state_defs.specs.Rules.{may_fault as may_fault_in};
 ghost use Rattle.machine_defs.specs.Program.{Program};
 ghost use Rattle.machine_defs.specs.Kept.{brought_along as brought_along_edge, is_free as is_free_hint, moved_at};
 ghost use Rattle.machine_defs.specs.Ways.{may_leave as may_leave_at};
@@ -9,21 +10,21 @@ ghost use Rattle.program_graph.specs.Tells.{Tells};
 ghost use Rattle.kept_states.specs.LevelStates.{at};
 ghost use Rattle.stack_rules.specs.Checks.{Checks};
 ghost use Rattle.stack_rules.specs.Gains.{Gains};
-ghost use Rattle.stack_rules.specs.PointWarns.{ArrivalWarns, EdgeWarns, MismatchWarns, SiblingWarns};
+ghost use Rattle.stack_rules.specs.PointWarns.{ArrivalWarns, EdgeWarns, IsBrought, MismatchWarns, SiblingWarns};
 
-use crate::exits::push_sibling;
+use crate::exits::{may_fault, push_sibling};
 use crate::listing::{bare_warning, is_restore, push_if};
 use crate::numbers::{depths_warning, is_same};
-use kept_states::{Kept, step_at};
+use kept_states::{Kept, held_at, step_at};
 use machine_defs::{Edge, EdgeKind};
-use ot_base::rules::{FALLS_THROUGH, RESTORE_WITHOUT_SAVE};
+use ot_base::rules::{FALLS_THROUGH, RESTORE_WITHOUT_SAVE, STACK_POINTER_LOST};
 use ot_base::{NoMemory, Place, Warning};
 use program_graph::Graph;
 use state_defs::{HintState, State};
 
-/// What a state of a point is brought along an edge as: to a fixup the state before the instruction, else the one after it;
-/// to another function none.
-fn brought_along(graph: &Graph, n: u32, state: State, kind: EdgeKind) -> Option<State>
+/// What a state of a point is given along an edge as, before its copy of rsp is looked at: to a fixup the state before the
+/// instruction, else the one after it; to another function none.
+fn given_along(graph: &Graph, n: u32, state: State, kind: EdgeKind) -> Option<State>
     requires { n < length graph.now.parts.points.items }
     ensures { (p : Program) → Tells p graph.now.parts → option_to_list result ≡ brought_along_edge state (moved_at p n state) kind }
 {
@@ -31,6 +32,18 @@ fn brought_along(graph: &Graph, n: u32, state: State, kind: EdgeKind) -> Option<
         EdgeKind::Next | EdgeKind::Taken | EdgeKind::Table => step_at(graph, n, state).ok(),
         EdgeKind::Fixup => Some(state),
         EdgeKind::Sibling => None,
+    }
+}
+
+/// What a state of a point is brought along an edge as, with the copy of rsp alone that is held at its end.
+fn brought_along(graph: &Graph, n: u32, state: State, edge: Edge) -> Option<State>
+    requires from { n < length graph.now.parts.points.items }
+    requires to { edge.to < length graph.now.parts.points.items }
+    ensures { (p : Program) → Tells p graph.now.parts → IsBrought p state (moved_at p n state) edge result }
+{
+    match given_along(graph, n, state, edge.kind) {
+        Some(moved) => Some(held_at(graph, edge.to, moved)),
+        None => None,
     }
 }
 
@@ -122,7 +135,14 @@ fn push_sibling_edge(
     }
 }
 
-/// The rules 2, 4, 6, 15 and 18 at an edge of a point, which may leave or not.
+/// Whether an instruction may fault and go on at a fixup where it mustn't.
+fn faults_between(kind: EdgeKind, state: State) -> bool
+    ensures { IsTrue result ↔ (kind ≡ EdgeKind.Fixup × may_fault_in state ≡ false) }
+{
+    matches!(kind, EdgeKind::Fixup) && !may_fault(state)
+}
+
+/// The rules 2, 4, 6, 9, 15 and 18 at an edge of a point, which may leave or not.
 pub(crate) fn push_edge(
     graph: &Graph,
     kept: &Kept,
@@ -144,7 +164,12 @@ pub(crate) fn push_edge(
         falls_out(graph, n, edge),
         bare_warning(place, FALLS_THROUGH),
     )?;
+    push_if(
+        into,
+        faults_between(edge.kind, state),
+        bare_warning(place, STACK_POINTER_LOST),
+    )?;
     push_sibling_edge(into, place, state, may_leave, edge.kind)?;
-    let brought = brought_along(graph, n, state, edge.kind);
+    let brought = brought_along(graph, n, state, edge);
     push_arrival(graph, kept, into, edge.to, brought)
 }

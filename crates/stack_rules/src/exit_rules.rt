@@ -6,8 +6,8 @@ ghost use Rattle.state_defs.specs.Rules.{is_initial as is_initial_state, return_
 use ot_base::rules::{EXIT_NOT_ALLOWED, MODIFIED_RETURN, MODIFIED_SIBLING_CALL};
 use state_defs::{BpHome, Depth, State};
 
-/// Whether the stack is as at a function's entry: the return address is on top, and the caller's rbp is in
-/// rbp.
+/// Whether the stack is as at a function's entry, whichever copies of rsp there are: the return address is on top, and the
+/// caller's rbp is in rbp.
 fn is_initial(state: State) -> bool
     ensures { result ≡ is_initial_state state }
 {
@@ -16,8 +16,14 @@ fn is_initial(state: State) -> bool
             depth: Depth::Known(n),
             fp: None,
             bp: BpHome::Same,
+            ..
         } => n == 8,
-        State::Live { .. } | State::Ended(_) | State::Regs { .. } => false,
+        State::Live { .. }
+        | State::Ended(_)
+        | State::Regs { .. }
+        | State::Poised { .. }
+        | State::Switched { .. }
+        | State::Drap { .. } => false,
     }
 }
 
@@ -27,9 +33,10 @@ pub fn return_rule(state: State) -> Option<u8>
     ensures { result ≡ return_rule_of state }
 {
     match state {
-        State::Live { .. } if is_initial(state) => None,
-        State::Live { .. } => Some(MODIFIED_RETURN),
         State::Ended(_) | State::Regs { .. } => Some(EXIT_NOT_ALLOWED),
+        State::Live { .. } if is_initial(state) => None,
+        State::Live { .. } | State::Poised { .. } | State::Switched { .. } | State::Drap { .. } =>
+            Some(MODIFIED_RETURN),
     }
 }
 
@@ -39,9 +46,10 @@ pub fn sibling_rule(state: State) -> Option<u8>
     ensures { result ≡ sibling_rule_of state }
 {
     match state {
-        State::Live { .. } if is_initial(state) => None,
-        State::Live { .. } => Some(MODIFIED_SIBLING_CALL),
         State::Ended(_) | State::Regs { .. } => Some(EXIT_NOT_ALLOWED),
+        State::Live { .. } if is_initial(state) => None,
+        State::Live { .. } | State::Poised { .. } | State::Switched { .. } | State::Drap { .. } =>
+            Some(MODIFIED_SIBLING_CALL),
     }
 }
 
@@ -51,8 +59,12 @@ pub fn switch_rule(state: State) -> Option<u8>
     ensures { result ≡ switch_rule_of state }
 {
     match state {
-        State::Live { .. } | State::Regs { .. } => Some(EXIT_NOT_ALLOWED),
         State::Ended(_) => None,
+        State::Live { .. }
+        | State::Regs { .. }
+        | State::Poised { .. }
+        | State::Switched { .. }
+        | State::Drap { .. } => Some(EXIT_NOT_ALLOWED),
     }
 }
 
@@ -66,7 +78,12 @@ pub fn iret_rule(state: State) -> Option<u8>
         | State::Regs {
             full: false,
             depth: 0,
+            ..
         } => None,
-        State::Live { .. } | State::Regs { .. } => Some(EXIT_NOT_ALLOWED),
+        State::Live { .. }
+        | State::Regs { .. }
+        | State::Poised { .. }
+        | State::Switched { .. }
+        | State::Drap { .. } => Some(EXIT_NOT_ALLOWED),
     }
 }

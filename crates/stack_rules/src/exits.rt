@@ -2,7 +2,8 @@
 
 ghost use Rattle.std.specs.Prelude.{◌≡◌, ◌≢◌, ◌↔◌, IsTrue, OnOk, Some, None, true, false};
 ghost use Rattle.state_defs.specs.State.{IsConsistent};
-ghost use Rattle.state_defs.specs.Rules.{iret_rule as iret_rule_of, is_followed as is_followed_state, switch_rule as switch_rule_of};
+ghost use Rattle.state_defs.specs.Rules.{iret_rule as iret_rule_of, is_followed as is_followed_state, is_followed_by as is_followed_by_number, may_call as may_call_in, may_fault as may_fault_in, switch_rule as switch_rule_of};
+ghost use Rattle.machine_defs.specs.Program.{is_call_op};
 ghost use Rattle.stack_rules.specs.Gains.{Gains};
 ghost use Rattle.stack_rules.specs.PointWarns.{MarksWarn, OperationWarns, RefusalWarns, ReturnWarns, RoleWarns, SiblingWarns};
 
@@ -13,26 +14,92 @@ use machine_defs::{Marks, Role};
 use operation_defs::Op;
 use ot_base::rules::{
     BAD_BRANCH_TARGET, CALL_INTO_FUNCTION, EXIT_NOT_ALLOWED, JUMP_INTO_SITE, MODIFIED_RETURN,
-    MODIFIED_SIBLING_CALL, RELOCATED_STACK_OFFSET, RUNS_OFF_SECTION, UNSUPPORTED_SP_WRITE,
+    MODIFIED_SIBLING_CALL, RELOCATED_STACK_OFFSET, RUNS_OFF_SECTION, STACK_POINTER_LOST,
+    UNSUPPORTED_SP_WRITE,
 };
 use ot_base::{NoMemory, Place, Warning};
-use state_defs::State;
+use state_defs::{Phase, State};
 
 /// Whether registers and memory are followed in a state.
 fn is_followed(state: State) -> bool
     ensures { result ≡ is_followed_state state }
 {
     match state {
-        State::Live { .. } | State::Regs { .. } => true,
+        State::Live { .. }
+        | State::Regs { .. }
+        | State::Poised { .. }
+        | State::Switched { .. }
+        | State::Drap { .. } => true,
         State::Ended(_) => false,
     }
 }
 
-/// Whether a relocation changes a number by which a state is followed.
-fn is_relocated(state: State, marks: Marks) -> bool
-    ensures { IsTrue result ↔ (is_followed_state state ≡ true × marks.relocated ≡ true) }
+/// Whether a state is moved by the number in an operation, where it has one.
+fn is_followed_by(op: Op, state: State) -> bool
+    ensures { result ≡ is_followed_by_number op state }
 {
-    is_followed(state) && marks.relocated
+    match op {
+        Op::LeaReg { .. } => false,
+        Op::LeaSpReg { .. } | Op::LoadReg { .. } => matches!(state, State::Drap { .. }),
+        _ => is_followed(state),
+    }
+}
+
+/// Whether a relocation changes a number by which a state is followed.
+fn is_relocated(op: Op, state: State, marks: Marks) -> bool
+    ensures { IsTrue result ↔ (is_followed_by_number op state ≡ true × marks.relocated ≡ true) }
+{
+    marks.relocated && is_followed_by(op, state)
+}
+
+/// Whether an operation is a call.
+fn is_call(op: Op) -> bool
+    ensures { result ≡ is_call_op op }
+{
+    matches!(op, Op::Call { .. } | Op::CallInd)
+}
+
+/// Whether an instruction may call in a state: but where the frame's top is in a register alone.
+fn may_call(state: State) -> bool
+    ensures { result ≡ may_call_in state }
+{
+    match state {
+        State::Drap {
+            phase: Phase::Bare { .. } | Phase::Pushed { .. } | Phase::Framed { .. },
+            ..
+        } => false,
+        State::Drap {
+            phase: Phase::Homed { .. },
+            ..
+        }
+        | State::Live { .. }
+        | State::Ended(_)
+        | State::Regs { .. }
+        | State::Poised { .. }
+        | State::Switched { .. } => true,
+    }
+}
+
+/// Whether an instruction may fault in a state and go on at a fixup: but right behind a store of rsp at a cell, and where the
+/// frame's top is in a register alone.
+pub(crate) fn may_fault(state: State) -> bool
+    ensures { result ≡ may_fault_in state }
+{
+    match state {
+        State::Poised { .. } => false,
+        State::Live { .. }
+        | State::Ended(_)
+        | State::Regs { .. }
+        | State::Switched { .. }
+        | State::Drap { .. } => may_call(state),
+    }
+}
+
+/// Whether an operation calls where it mustn't.
+fn is_unallowed_call(op: Op, state: State) -> bool
+    ensures { IsTrue result ↔ (is_call_op op ≡ true × may_call_in state ≡ false) }
+{
+    is_call(op) && !may_call(state)
 }
 
 /// Whether execution runs off its section, in code with this owner. Code of no function may do so where the stack has
@@ -48,11 +115,12 @@ fn runs_off(state: State, owner: Option<u32>, marks: Marks) -> bool
 pub(crate) fn push_marks(
     into: &mut Vec<Warning>,
     place: Place,
+    op: Op,
     state: State,
     owner: Option<u32>,
     marks: Marks,
 ) -> Result<(), NoMemory>
-    ensures { OnOk result (Gains into.old.items into.new.items (MarksWarn place state owner marks)) }
+    ensures { OnOk result (Gains into.old.items into.new.items (MarksWarn place op state owner marks)) }
 {
     push_if(into, marks.bad, bare_warning(place, BAD_BRANCH_TARGET))?;
     push_if(
@@ -68,7 +136,7 @@ pub(crate) fn push_marks(
     )?;
     push_if(
         into,
-        is_relocated(state, marks),
+        is_relocated(op, state, marks),
         bare_warning(place, RELOCATED_STACK_OFFSET),
     )
 }
@@ -184,7 +252,8 @@ fn push_refusal(
     }
 }
 
-/// The rules 7 to 11 and 15, as far as the operation breaks them in its state, which has this move, right before a hint or not.
+/// The rules 7 to 11 and 15, as far as the operation breaks them in its state, which has this move, right before a hint or not;
+/// and 9 at a call where there may be none.
 pub(crate) fn push_operation(
     into: &mut Vec<Warning>,
     place: Place,
@@ -198,5 +267,10 @@ pub(crate) fn push_operation(
     let unallowed = bare_warning(place, EXIT_NOT_ALLOWED);
     push_refusal(into, place, after, before_hint)?;
     push_if(into, is_unallowed_switch(op, state), unallowed)?;
-    push_if(into, is_unallowed_iret(op, state), unallowed)
+    push_if(into, is_unallowed_iret(op, state), unallowed)?;
+    push_if(
+        into,
+        is_unallowed_call(op, state),
+        bare_warning(place, STACK_POINTER_LOST),
+    )
 }

@@ -1,10 +1,10 @@
 //! The numbers that warnings tell of states.
 
-ghost use Rattle.std.specs.Prelude.{◌≡◌, ◌↔◌, IsTrue, OnOk, pos};
+ghost use Rattle.std.specs.Prelude.{◌≡◌, ◌↔◌, ◌≤ℤ◌, IsTrue, OnOk, neg_ℤ, pos};
 ghost use Rattle.ot_base.specs.Warnings.{numbered_warning};
-ghost use Rattle.state_defs.specs.State.{IsConsistent};
+ghost use Rattle.state_defs.specs.State.{IsConsistent, depth_of};
 ghost use Rattle.state_defs.specs.Row.{unfit_offset as unfit_offset_of};
-ghost use Rattle.state_defs.specs.Rules.{depth_number as depth_number_of};
+ghost use Rattle.state_defs.specs.Rules.{depth_number as depth_number_of, depth_number_of as depth_number_in_depth};
 ghost use Rattle.stack_rules.specs.Gains.{Gains};
 ghost use Rattle.stack_rules.specs.PointWarns.{RowWarns, depth_warning as depth_warning_of};
 
@@ -12,7 +12,40 @@ use crate::listing::push;
 use crate::unfit_offset;
 use ot_base::rules::{OFFSET_OUT_OF_RANGE, STATE_MISMATCH};
 use ot_base::{NoMemory, Place, Warning};
-use state_defs::{Depth, State};
+use state_defs::{Depth, Phase, SpCopy, State};
+
+/// Whether two copies of rsp are the same, or there are none.
+fn is_same_copy(one: Option<SpCopy>, other: Option<SpCopy>) -> bool
+    ensures { IsTrue result ↔ (one ≡ other) }
+{
+    match (one, other) {
+        (Some(one), Some(other)) => one.reg == other.reg && one.depth == other.depth,
+        (None, None) => true,
+        (Some(_), None) | (None, Some(_)) => false,
+    }
+}
+
+/// Whether two phases are the same.
+fn is_same_phase(one: Phase, other: Phase) -> bool
+    ensures { IsTrue result ↔ (one ≡ other) }
+{
+    match (one, other) {
+        (Phase::Bare { depth }, Phase::Bare { depth: other }) => depth == other,
+        (Phase::Pushed { size }, Phase::Pushed { size: other }) => size == other,
+        (Phase::Framed { size }, Phase::Framed { size: other }) => size == other,
+        (
+            Phase::Homed { size, home },
+            Phase::Homed {
+                size: other,
+                home: other_home,
+            },
+        ) => size == other && home == other_home,
+        (
+            Phase::Bare { .. } | Phase::Pushed { .. } | Phase::Framed { .. } | Phase::Homed { .. },
+            _,
+        ) => false,
+    }
+}
 
 /// Whether two states are the same.
 pub(crate) fn is_same(one: State, other: State) -> bool
@@ -20,22 +53,65 @@ pub(crate) fn is_same(one: State, other: State) -> bool
 {
     match (one, other) {
         (
-            State::Live { depth, fp, bp },
             State::Live {
+                depth,
+                fp,
+                bp,
+                copy,
+            },
+            State::Live {
+                depth: other_depth,
+                fp: other_fp,
+                bp: other_bp,
+                copy: other_copy,
+            },
+        ) => {
+            depth == other_depth
+                && fp == other_fp
+                && bp == other_bp
+                && is_same_copy(copy, other_copy)
+        }
+        (State::Ended(kind), State::Ended(other_kind)) => kind == other_kind,
+        (
+            State::Regs { full, depth, trap },
+            State::Regs {
+                full: other_full,
+                depth: other_depth,
+                trap: other_trap,
+            },
+        ) => full == other_full && depth == other_depth && trap == other_trap,
+        (
+            State::Poised { depth, fp, bp },
+            State::Poised {
                 depth: other_depth,
                 fp: other_fp,
                 bp: other_bp,
             },
         ) => depth == other_depth && fp == other_fp && bp == other_bp,
-        (State::Ended(kind), State::Ended(other_kind)) => kind == other_kind,
         (
-            State::Regs { full, depth },
-            State::Regs {
-                full: other_full,
+            State::Switched { depth, bp, fp },
+            State::Switched {
                 depth: other_depth,
+                bp: other_bp,
+                fp: other_fp,
             },
-        ) => full == other_full && depth == other_depth,
-        (State::Live { .. } | State::Ended(_) | State::Regs { .. }, _) => false,
+        ) => depth == other_depth && bp == other_bp && fp == other_fp,
+        (
+            State::Drap { reg, phase },
+            State::Drap {
+                reg: other_reg,
+                phase: other_phase,
+            },
+        ) => reg == other_reg && is_same_phase(phase, other_phase),
+        (
+            State::Live { .. }
+            | State::Ended(_)
+            | State::Regs { .. }
+            | State::Poised { .. }
+            | State::Switched { .. }
+            | State::Drap { .. },
+            _,
+        ) => false,
     }
 }
 
@@ -46,16 +122,34 @@ fn depth_number(state: State) -> i64
     ensures { IsConsistent state → result ≡ depth_number_of state }
 {
     match state {
-        State::Live {
-            depth: Depth::Known(n),
-            ..
-        } => n,
-        State::Live {
-            depth: Depth::AtLeast(n),
-            ..
-        } => { if n < 0 { 0 } else { -n } }
+        State::Live { depth, .. } => depth_number_in(depth),
+        State::Poised { depth, .. } => depth_number_in(depth),
         State::Ended(_) => 0,
         State::Regs { depth, .. } => depth,
+        State::Switched { depth, .. } => depth,
+        State::Drap { phase, .. } => match phase {
+            Phase::Bare { depth } => turned(depth),
+            Phase::Pushed { size } => size,
+            Phase::Framed { size } => size,
+            Phase::Homed { size, .. } => size,
+        },
+    }
+}
+
+/// The opposite of a number that isn't negative.
+fn turned(n: i64) -> i64
+    ensures { pos 0 ≤ℤ n → result ≡ neg_ℤ n }
+{
+    if n < 0 { 0 } else { -n }
+}
+
+/// The number that a warning tells of a depth that isn't negative.
+fn depth_number_in(depth: Depth) -> i64
+    ensures { pos 0 ≤ℤ depth_of depth → result ≡ depth_number_in_depth depth }
+{
+    match depth {
+        Depth::Known(n) => n,
+        Depth::AtLeast(n) => turned(n),
     }
 }
 

@@ -5,7 +5,7 @@ ghost use Rattle.state_defs.specs.Row.{has_16_bits as fits_16_bits, unfit_offset
 ghost use Rattle.state_defs.specs.Rules.{fit_rule as fit_rule_of};
 
 use ot_base::rules::OFFSET_OUT_OF_RANGE;
-use state_defs::{BpHome, Depth, State};
+use state_defs::{BpHome, Depth, Phase, State};
 
 /// Whether an offset has 16 bits.
 fn has_16_bits(n: i128) -> bool
@@ -41,14 +41,20 @@ pub fn fit_rule(state: State) -> Option<u8>
 }
 
 /// The offsets of a state's row, that of sp and that of bp, as whole numbers of bytes.
-fn offsets(state: State) -> (i128, i128)
+pub(crate) fn offsets(state: State) -> (i128, i128)
     ensures sp { result.0 ≡ (row_of state).sp_offset }
     ensures bp { result.1 ≡ (row_of state).bp_offset }
 {
     match state {
-        State::Live { depth, fp, bp } => (sp_offset(depth, fp), bp_offset(bp)),
+        State::Live { depth, fp, bp, .. } => (sp_offset(depth, fp), bp_offset(bp)),
+        State::Poised { depth, fp, bp } => (sp_offset(depth, fp), bp_offset(bp)),
         State::Ended(_) => (0, 0),
         State::Regs { depth, .. } => (i128::from(depth), 0),
+        State::Switched { depth, bp, .. } => (i128::from(depth), bp_offset(bp)),
+        State::Drap { phase, .. } => match phase {
+            Phase::Homed { home, .. } => (-i128::from(home), 0),
+            Phase::Bare { .. } | Phase::Pushed { .. } | Phase::Framed { .. } => (0, 0),
+        },
     }
 }
 

@@ -61,10 +61,10 @@ fn push_kept(
     ensures { OnOk result ((p : Program) → Checks p graph.now.parts kept.now → at kept.now n ≡ Some state → Gains into.old.items into.new.items (KeptWarns p kept.now n state)) }
 {
     let place = graph.place(n);
-    let op = graph.insn(n).op;
+    let op = graph.op(n);
     let after = step_at(graph, n, state);
     let leaves = may_leave(graph, n);
-    push_marks(into, place, state, graph.owner(n), graph.marks(n))?;
+    push_marks(into, place, op, state, graph.owner(n), graph.marks(n))?;
     push_role(into, place, op, state, leaves, graph.role(n))?;
     push_operation(into, place, op, state, after, is_before_hint(graph, n))?;
     push_row(into, place, state)?;

@@ -4,16 +4,17 @@
 ghost use Rattle.std.specs.Prelude.{◌≡◌, ◌≢◌, ◌<◌, ◌↔◌, ◌∷◌, [], All, IfOk, IsSome, IsTrue, None, Ok, OnOk, Some, false, length, true};
 ghost use Rattle.state_defs.specs.Move.{has_near_numbers};
 ghost use Rattle.state_defs.specs.Row.{unfit_offset};
+ghost use Rattle.state_defs.specs.State.{held_by};
 ghost use Rattle.machine_defs.specs.Program.{Program};
-ghost use Rattle.machine_defs.specs.Kept.{brought_along, edges_of, moved_at};
+ghost use Rattle.machine_defs.specs.Kept.{edges_of, moved_at};
 ghost use Rattle.program_graph.specs.Tells.{Tells};
 ghost use Rattle.kept_states.specs.LevelStates.{at};
-ghost use Rattle.kept_states.specs.Neutral.{is_neutral as is_neutral_op};
+ghost use Rattle.kept_states.specs.Neutral.{is_neutral as is_neutral_op, is_usual};
 ghost use Rattle.stack_rules.specs.Quiet.{ArePassing, IsQuiet, Leads, Passes, is_exit as is_exit_op, is_unmarked as is_unmarked_by, stays as stays_by};
 
 use crate::arrivals::falls_out;
 use crate::numbers::is_same;
-use kept_states::{Kept, step_at};
+use kept_states::{Kept, held_at, step_at};
 use machine_defs::{Edge, EdgeKind, Marks, Role};
 use operation_defs::Op;
 use ot_base::NoMemory;
@@ -173,13 +174,13 @@ fn stays_next(graph: &Graph, n: u32, edge: Edge) -> bool
     is_next(edge.kind) && graph.have_one_owner(edge.to, n)
 }
 
-/// Whether the operation of a point moves its state to that of another, as a step tells.
+/// Whether the operation of a point moves its state to that of another, as a step tells, with the copy of rsp that is held there.
 #[inline(never)]
 fn steps_to(graph: &Graph, kept: &Kept, n: u32, to: u32) -> bool
     requires points { length kept.now ≡ length graph.now.parts.points.items }
     requires from { n < length graph.now.parts.points.items }
     requires to { to < length graph.now.parts.points.items }
-    ensures { IsTrue result → (p : Program) → Tells p graph.now.parts → (s : State) → at kept.now n ≡ Some s → (t : State) × (moved_at p n s ≡ Ok t) × (at kept.now to ≡ Some t) }
+    ensures { IsTrue result → (p : Program) → Tells p graph.now.parts → (s : State) → at kept.now n ≡ Some s → (t : State) × (moved_at p n s ≡ Ok t) × (at kept.now to ≡ Some (held_by (p.held to) t)) }
 {
     let Some(before) = kept.state(n) else {
         return false;
@@ -188,7 +189,7 @@ fn steps_to(graph: &Graph, kept: &Kept, n: u32, to: u32) -> bool
         return false;
     };
     match kept.state(to) {
-        Some(after) => is_same(moved, after),
+        Some(after) => is_same(held_at(graph, to, moved), after),
         None => false,
     }
 }
@@ -199,9 +200,9 @@ fn moves_to(graph: &Graph, kept: &Kept, n: u32, to: u32) -> bool
     requires points { length kept.now ≡ length graph.now.parts.points.items }
     requires from { n < length graph.now.parts.points.items }
     requires to { to < length graph.now.parts.points.items }
-    ensures { IsTrue result → (p : Program) → Tells p graph.now.parts → (s : State) → at kept.now n ≡ Some s → (t : State) × (moved_at p n s ≡ Ok t) × (at kept.now to ≡ Some t) }
+    ensures { IsTrue result → (p : Program) → Tells p graph.now.parts → (s : State) → at kept.now n ≡ Some s → (t : State) × (moved_at p n s ≡ Ok t) × (at kept.now to ≡ Some (held_by (p.held to) t)) }
 {
-    kept.moves_to(graph.insn(n).op, n, to) || steps_to(graph, kept, n, to)
+    kept.moves_to(graph.op(n), n, to) || steps_to(graph, kept, n, to)
 }
 
 /// Whether the operation of a point is no way out, and moves its state to that of the next instruction, of the same owner, to
@@ -218,13 +219,13 @@ fn moves_along(graph: &Graph, kept: &Kept, n: u32, edge: Edge) -> bool
     if !stays_next(graph, n, edge) {
         return false;
     }
-    if is_exit(graph.insn(n).op) {
+    if is_exit(graph.op(n)) {
         return false;
     }
     moves_to(graph, kept, n, edge.to)
 }
 
-/// Whether an operation leaves each state as it is, and is no indirect jump.
+/// Whether an operation leaves each usual state as it is, and is no indirect jump.
 #[inline(always)]
 pub(crate) fn is_still(op: Op) -> bool
     ensures { IsTrue result → is_neutral_op op ≡ true }
@@ -232,6 +233,11 @@ pub(crate) fn is_still(op: Op) -> bool
     matches!(
         op,
         Op::Plain
+            | Op::RegOther { .. }
+            | Op::LeaReg { .. }
+            | Op::LoadReg { .. }
+            | Op::StoreSp { .. }
+            | Op::CopyBp { .. }
             | Op::Nop
             | Op::Endbr
             | Op::Call { .. }
@@ -261,12 +267,13 @@ fn asks_nothing(graph: &Graph, n: u32) -> bool
     graph.goes_along_edges(n) || stays(graph.role(n)) && is_unmarked(graph.marks(n))
 }
 
-/// Whether a state is kept at a point whose numbers are near and whose row fits, and where control goes from it asks nothing of a state.
+/// Whether a usual state is kept at a point whose numbers are near and whose row fits, and where control goes from it asks nothing of a state.
 #[inline(always)]
 fn is_allowed(graph: &Graph, kept: &Kept, n: u32) -> bool
     requires points { length kept.now ≡ length graph.now.parts.points.items }
     requires point { n < length graph.now.parts.points.items }
     ensures some { IsTrue result → IsSome (at kept.now n) }
+    ensures usual { IsTrue result → (s : State) → at kept.now n ≡ Some s → is_usual s ≡ true }
     ensures near { IsTrue result → (s : State) → at kept.now n ≡ Some s → has_near_numbers s ≡ true }
     ensures fit { IsTrue result → (s : State) → at kept.now n ≡ Some s → unfit_offset s ≡ None }
     ensures stays { IsTrue result → (p : Program) → Tells p graph.now.parts → stays_by (p.role n) ≡ true }
@@ -287,9 +294,9 @@ pub(crate) fn is_quiet(graph: &Graph, kept: &Kept, n: u32) -> bool
     }
     let edges = graph.successors(n);
     if edges.len() != 1 {
-        return is_still(graph.insn(n).op) && several_pass(graph, kept, n);
+        return is_still(graph.op(n)) && several_pass(graph, kept, n);
     }
-    if is_still(graph.insn(n).op) {
+    if is_still(graph.op(n)) {
         return passes(graph, kept, n, edges[0]);
     }
     moves_along(graph, kept, n, edges[0])
@@ -312,7 +319,7 @@ pub(crate) fn is_quiet_jump(
     if !is_allowed(graph, kept, n) {
         return Ok(false);
     }
-    let op = graph.insn(n).op;
+    let op = graph.op(n);
     if !is_indirect_jump(op) {
         return Ok(false);
     }

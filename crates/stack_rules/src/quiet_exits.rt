@@ -41,7 +41,7 @@ pub(crate) fn is_quiet_exit(graph: &Graph, kept: &Kept, n: u32) -> bool
     requires point { n < length graph.now.parts.points.items }
     ensures { IsTrue result → (p : Program) → Tells p graph.now.parts → IsQuietExit p kept.now n }
 {
-    if !is_plain_exit(graph.insn(n).op) {
+    if !is_plain_exit(graph.op(n)) {
         return false;
     }
     if !is_unmarked(graph.marks(n)) {

@@ -3,7 +3,7 @@
 ghost use Rattle.std.specs.Prelude.{◌≡◌, ◌-◌, ◌<◌, ◌⊎◌, ◌↔◌, ◌^◌, ℕ, IsTrue, List, OnOk, All, AllPairs, Contains, length, slice_index_or};
 ghost use Rattle.ot_base.specs.declared.warning.Warning.{Warning as WarningValue};
 ghost use Rattle.ot_base.specs.declared.rules.TheConstants.{ALTERNATIVES_DISAGREE};
-ghost use Rattle.machine_defs.specs.Program.{Program, is_call_op};
+ghost use Rattle.machine_defs.specs.Program.{Program, is_looked_up_behind as is_looked_up_behind_op};
 ghost use Rattle.machine_defs.specs.IsProgram.{IsLaidOut};
 ghost use Rattle.machine_defs.specs.Broken.{Warns};
 ghost use Rattle.program_graph.specs.Tells.{Tells};
@@ -81,15 +81,15 @@ fn push_disagreement(
     Ok(())
 }
 
-/// Whether an instruction is a call.
-fn is_call(op: Op) -> bool
-    ensures { result ≡ is_call_op op }
+/// Whether a walk looks at the last byte of an instruction: control comes back behind it, from a call or a breakpoint.
+fn is_looked_up_behind(op: Op) -> bool
+    ensures { result ≡ is_looked_up_behind_op op }
 {
-    matches!(op, Op::Call { .. } | Op::CallInd)
+    matches!(op, Op::Call { .. } | Op::CallInd | Op::Int3)
 }
 
-/// Rule 12 at the last byte of a call.
-fn push_call(
+/// Rule 12 at the last byte of a call or breakpoint.
+fn push_behind(
     graph: &Graph,
     kept: &Kept,
     sites: &SiteIndex,
@@ -109,7 +109,7 @@ fn push_call(
     }
 }
 
-/// Rule 12 at a point: where it begins, and of a call also at its last byte. The first of the points at its address is known.
+/// Rule 12 at a point: where it begins, and of a call or breakpoint also at its last byte. The first of the points at its address is known.
 #[inline(always)]
 fn push_point(
     graph: &Graph,
@@ -127,17 +127,9 @@ fn push_point(
     ensures { OnOk result ((p : Program) → Tells p graph.now.parts → IsIndexOf p sites.now → IsLaidOut p → AllPairs (ComesBefore p) points.now → FitPoint p point → IsInForceAt p points.now (p.address point) first → Gains into.old.items into.new.items (PointDisagrees p (at kept.now) points.now point)) }
 {
     push_disagreement(graph, kept, sites, into, point, 0, first)?;
-    let insn = graph.insn(point);
-    if is_call(insn.op) {
-        push_call(
-            graph,
-            kept,
-            sites,
-            into,
-            points,
-            point,
-            insn.len.saturating_sub(1),
-        )?;
+    if is_looked_up_behind(graph.op(point)) {
+        let ahead = graph.len(point).saturating_sub(1);
+        push_behind(graph, kept, sites, into, points, point, ahead)?;
     }
     Ok(())
 }

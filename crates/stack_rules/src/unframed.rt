@@ -28,7 +28,7 @@ fn wants_frame(graph: &Graph, n: u32) -> bool
     requires { n < length graph.now.parts.points.items }
     ensures { (p : Program) → Tells p graph.now.parts → IsTrue result ↔ (is_call_op (p.insn n).op ≡ true × p.calls_fentry n ≡ false) }
 {
-    is_call(graph.insn(n).op) && !graph.calls_fentry(n)
+    is_call(graph.op(n)) && !graph.calls_fentry(n)
 }
 
 /// Whether a point is a call that is made without a frame, but one of `__fentry__`.

@@ -45,7 +45,7 @@ fn is_telling(graph: &Graph, options: Options, parts: &HoleParts, n: u32) -> boo
     if graph.owner(n).is_none() && graph.in_patches(n) {
         return false;
     }
-    if is_filler(graph.insn(n).op) {
+    if is_filler(graph.op(n)) {
         return false;
     }
     if is_left(graph, options, parts, n) {

@@ -59,7 +59,7 @@ fn leads_outside(graph: &Graph, n: u32) -> bool
     requires { n < length graph.now.parts.points.items }
     ensures { (p : Program) → Tells p graph.now.parts → result ≡ leads_outside_at p n }
 {
-    leads_out(graph.role(n)) && !drops_bytes(graph.insn(n).op) && !has_sibling(graph.successors(n))
+    leads_out(graph.role(n)) && !drops_bytes(graph.op(n)) && !has_sibling(graph.successors(n))
 }
 
 /// Whether code may leave here, whatever its stack is: it is of no function, or loose, and leads outside or is a joined jump.

@@ -4,9 +4,9 @@ ghost use Rattle.std.specs.Prelude.{◌≡◌};
 ghost use Rattle.std.proofs.Common.{rules};
 ghost use Rattle.std.specs.Cmp.Rules.{hashing};
 ghost use Rattle.state_defs.specs.State.{depth_of};
-ghost use Rattle.state_pool.specs.Hashed.{hashed, saved_at as place_of_home};
+ghost use Rattle.state_pool.specs.Hashed.{hashed, saved_at as place_of_home, size_of};
 
-use state_defs::{BpHome, Depth, State};
+use state_defs::{BpHome, Depth, Phase, State};
 use std::hash::{Hash, Hasher};
 
 /// A state as a key.
@@ -31,6 +31,18 @@ fn saved_at(bp: BpHome) -> Option<i64>
     }
 }
 
+/// The first number of a phase.
+fn size(phase: Phase) -> i64
+    ensures { result ≡ size_of phase }
+{
+    match phase {
+        Phase::Bare { depth } => depth,
+        Phase::Pushed { size } => size,
+        Phase::Framed { size } => size,
+        Phase::Homed { size, .. } => size,
+    }
+}
+
 impl Hash for Key {
     ghost hash_input = { λ k. hashed k.0 };
 
@@ -38,16 +50,22 @@ impl Hash for Key {
 
     fn hash<H: Hasher>(&self, hasher: &mut H) {
         match self.0 {
-            State::Live { depth, fp, bp } => {
+            State::Live { depth, fp, bp, .. } | State::Poised { depth, fp, bp } => {
                 number(depth).hash(hasher);
                 fp.hash(hasher);
                 saved_at(bp).hash(hasher);
             }
             State::Ended(_) => {}
-            State::Regs { full, depth } => {
+            State::Regs { full, depth, .. } => {
                 full.hash(hasher);
                 depth.hash(hasher);
             }
+            State::Switched { depth, bp, fp } => {
+                depth.hash(hasher);
+                fp.hash(hasher);
+                saved_at(bp).hash(hasher);
+            }
+            State::Drap { phase, .. } => size(phase).hash(hasher),
         }
     }
 }

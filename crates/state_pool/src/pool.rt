@@ -21,7 +21,7 @@ pub struct StateNo(pub u32);
 /// states, and how many more it has room for (`States`).
 ///
 /// A state is found by its hash, in a time that doesn't grow with the number of states, unless they are chosen so
-/// that many of them hash alike. For each state that it has room for, the region has 64 bytes, which are first
+/// that many of them hash alike. For each state that it has room for, the region has 96 bytes, which are first
 /// touched when that number is given, and the table of hashes at most 20.
 #[derive(Drop)]
 pub struct Pool {

@@ -1,13 +1,18 @@
--- A depth that is known from below is above 0.
-use Rattle.std.proofs.Common.{◌≡◌, pos, ◌≤ℤ◌, arith}
-use Rattle.std.proofs.lemmas.Int.{ints}
-use Rattle.state_defs.specs.declared.state.Depth.TheVariants.{AtLeast}
-use Rattle.stack_rules.proofs.Consistency.{at_least_above}
+-- A depth is above 0.
+use Rattle.std.proofs.Common.{SFits, w64, ap, sym, ◌∙◌, rules}
+use Rattle.std.proofs.lemmas.Int.{to_z-of_z}
+use Rattle.state_defs.specs.Rules.{depth_number}
+use Rattle.stack_rules.proofs.Consistency.{live_above, poised_above}
 use Rattle.stack_rules.proofs.numbers.depth_number.Goals as goal
 
-pub returns-then-n-lt0 : goal.returns-then-n-lt0
-returns-then-n-lt0 c consistent =
-    let live = c.in-Live-AtLeast-default-default in
-    let depth : live.depth ≡ AtLeast live.n = rw live.is at live.depth-is in
-    let h : pos 8 ≤ℤ live.n = at_least_above c.args.state live.depth live.fp live.bp live.n live.is depth consistent in
-    absurd (omega (arith, ints, h))
+pub returns-in-Live : goal.returns-in-Live
+returns-in-Live c consistent =
+    let live = c.in-Live in
+    let fits : SFits w64 c.depth_number_in.result = search rules in
+    to_z-of_z w64 c.depth_number_in.result fits ∙ (c.depth_number_in.ensures (live_above c.args.state live.depth live.fp live.bp live.copy live.is consistent) ∙ ap depth_number (sym live.is))
+
+pub returns-in-Poised : goal.returns-in-Poised
+returns-in-Poised c consistent =
+    let poised = c.in-Poised in
+    let fits : SFits w64 c.depth_number_in-in-Poised.result = search rules in
+    to_z-of_z w64 c.depth_number_in-in-Poised.result fits ∙ (c.depth_number_in-in-Poised.ensures (poised_above c.args.state poised.depth poised.fp poised.bp poised.is consistent) ∙ ap depth_number (sym poised.is))

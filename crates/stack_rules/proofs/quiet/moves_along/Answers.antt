@@ -1,6 +1,5 @@
 -- The edge leads to where the moved state is kept.
 use Rattle.std.proofs.Common.{◌≡◌, true, false, arith, ap, sym, ◌∙◌}
-use Rattle.operation_defs.specs.declared.insn.Insn.{Insn}
 use Rattle.stack_rules.specs.Quiet.{is_exit}
 use Rattle.stack_rules.proofs.QuietPoints.{next_leads}
 use Rattle.stack_rules.proofs.quiet.moves_along.Goals as goal
@@ -8,7 +7,7 @@ use Rattle.stack_rules.proofs.quiet.moves_along.Goals as goal
 pub returns-clause-exit : goal.returns-clause-exit
 returns-clause-exit c moves p tells =
     let exit : c.is_exit.result ≡ false = (let h = c.if-is_exit.false in grind arith) in
-    ap (λ (i : Insn). is_exit i.op) (sym (c.insn.ensures p tells)) ∙ (sym c.is_exit.ensures ∙ exit)
+    ap is_exit (sym (c.op.ensures p tells)) ∙ (sym c.is_exit.ensures ∙ exit)
 
 pub returns-clause-moves : goal.returns-clause-moves
 returns-clause-moves c moves p tells s some =

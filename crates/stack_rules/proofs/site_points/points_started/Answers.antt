@@ -13,3 +13,6 @@ returns-then-is_same-clause-told c p t apart = record {
 
 pub returns-else-is_same-clause-listed : goal.returns-else-is_same-clause-listed
 returns-else-is_same-clause-listed c = subst (λ (xs : List ℕ). IfOk c.points_among.result (λ among. (q : ℕ) → Contains among.items q → Contains xs q)) c.deref.ensures.value c.points_among.ensures.listed
+
+pub returns-else-is_same-clause-ascending : goal.returns-else-is_same-clause-ascending
+returns-else-is_same-clause-ascending c = rw (c.deref.ensures.value) at c.points_among.ensures.ascending

@@ -29,7 +29,7 @@ returns c p t holes = (
     ];
     covered = not_true _ (λ left. free c.is_left.result c.if-is_left.false ((c.is_left.ensures p t holes).1 (inl left)));
     apart = λ part. free c.is_left.result c.if-is_left.false ((c.is_left.ensures p t holes).1 (inr part));
-    telling = ap (λ i. is_filler i.op) (sym (c.insn.ensures p t)) ∙ (sym c.is_filler.ensures ∙ c.if-is_filler.false);
+    telling = ap is_filler (sym (c.op.ensures p t)) ∙ (sym c.is_filler.ensures ∙ c.if-is_filler.false);
   },
   λ k. eq-eqb _ _ (c.variant.ensures p t ∙ k.plain),
 )

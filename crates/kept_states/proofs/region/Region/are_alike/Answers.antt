@@ -21,4 +21,4 @@ returns c alike =
     state_at c.args.self.now c.self.inside.slots.items wide (vec_capacity c.self.inside.slots) c.self.view_is c.args.one c.index.result.now c.requires.one c.index.ensures in
     let other : slice_get c.args.self.now.list c.args.other ≡ Some (state_in c.index-2.result.now (wide c.args.other)) =
     state_at c.args.self.now c.self.inside.slots.items wide (vec_capacity c.self.inside.slots) c.self.view_is c.args.other c.index-2.result.now c.requires.other c.index-2.ensures in
-    one ∙ ap Some (c.is_alike.ensures alike (wide c.args.one) (wide c.args.other)) ∙ sym other
+    one ∙ ap Some (c.is_alike.ensures.same alike (wide c.args.one) (wide c.args.other)) ∙ sym other

@@ -5,7 +5,7 @@ use Rattle.ot_base.specs.declared.place.Place.{Place}
 use Rattle.kept_states.specs.LevelStates.{at}
 use Rattle.stack_rules.proofs.GainsLemmas.{gains_none}
 use Rattle.stack_rules.specs.Disagree.{Disagrees, IsInForceAt, ahead_of}
-use Rattle.stack_rules.proofs.site_check.push_call.Goals as goal
+use Rattle.stack_rules.proofs.site_check.push_behind.Goals as goal
 
 pub returns-in-Some : goal.returns-in-Some
 returns-in-Some c = on_ok_weaker c.push_disagreement.result (λ h p t index laid up fits.
