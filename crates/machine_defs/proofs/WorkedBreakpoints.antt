@@ -1,5 +1,5 @@
 -- Breakpoints.
-use Rattle.std.proofs.Common.{◌≡◌, ℕ, zero, suc, ◌<◌, ◌⊎◌, ◌==◌, Bool, true, false, List, [], ◌∷◌, Some, None, Contains, pos, if◌then◌else◌, refl, sym, ap, subst, inl, arith, lit<, lit≤}
+use Rattle.std.proofs.Common.{◌≡◌, ℕ, zero, suc, ◌<◌, ◌⊎◌, ◌==◌, Bool, true, false, List, [], ◌∷◌, Some, None, Contains, pos, if◌then◌else◌, refl, sym, ap, subst, inl, inr, arith, lit<, lit≤}
 use Rattle.operation_defs.specs.declared.op.Op.TheVariants.{Int3}
 use Rattle.machine_defs.specs.declared.flow.EdgeKind.TheVariants.{Next}
 use Rattle.state_defs.specs.declared.state.HintState.TheVariants.{Set}
@@ -8,11 +8,11 @@ use Rattle.state_defs.specs.Region.{stack_of, Holds}
 use Rattle.state_defs.specs.Frame.{Frame, Protected, IsAboveIn, AreKept}
 use Rattle.machine_defs.specs.Program.{entry_points}
 use Rattle.machine_defs.specs.Kept.{is_free}
-use Rattle.machine_defs.specs.Machine.{At}
-use Rattle.machine_defs.specs.Hint.{Lands, as_it_is, inner}
+use Rattle.machine_defs.specs.Machine.{IsOutside, At}
+use Rattle.machine_defs.specs.Hint.{Lands, Settles, as_it_is, outermost, inner}
 use Rattle.machine_defs.specs.Step.{IsGate, is_firm, Step, IsInterrupted, ReturnsFromInterrupt, goes_on, interrupted, irets, irets_behind, interrupt_frame}
 use Rattle.machine_defs.specs.WorkedSteps.{base}
-use Rattle.machine_defs.specs.WorkedBreakpoints.{breaking, settling, stack, frame_of_f, at_breakpoint, of_breakpoint, over_it, behind, settled, over_settled, standing, Breaks}
+use Rattle.machine_defs.specs.WorkedBreakpoints.{breaking, settling, stack, frame_of_f, at_breakpoint, of_breakpoint, over_it, behind, settled, over_settled, standing, from_outside, Breaks}
 use Rattle.state_defs.proofs.WorkedBytes.{all_stays, three}
 
 -- control that comes to the gate stands at it
@@ -99,6 +99,19 @@ free_behind : (r : ℕ) → Contains (1 ∷ []) r → is_free (settling.hint r) 
 free_behind r (zero, below, is) = subst (λ (q : ℕ). is_free (settling.hint q) ≡ true) is refl
 free_behind r (suc k, below, is) = absurd (omega (arith, below))
 
+abbrev top_trap : List Frame → Bool
+top_trap [] = false
+top_trap (f ∷ fs) = f.trap
+
+unsettles : (trap : Bool) (before after : List Frame) → Settles settling base trap before after → trap ≡ true → top_trap before ≡ false → ⊥
+unsettles _ _ _ (as_it_is trap f fs same) is other = let e : f.trap ≡ trap = same in let k : ⊥ = cc in k
+unsettles _ _ _ (outermost f fs same none outside) is other = let k : ⊥ = cc in k
+unsettles _ _ _ (inner f fs call next same made passed follows there free) is other = let k : ⊥ = cc in k
+
+outside : IsOutside settling base 0x2000
+outside text (zero, below, is) = inr (rw (sym is) (lit≤ tt))
+outside text (suc k, below, is) = absurd (omega (arith, below))
+
 settles : Step settling base (At (over_it 2 0x7FD8)) (At (over_settled 3 0x7FD0))
 settles =
     goes_on (over_it 2 0x7FD8) (over_it 3 0x7FD0) (over_settled 3 0x7FD0)
@@ -129,6 +142,8 @@ breaks_and_comes_back = record {
   comes_to_it = comes_to_it;
   settles = settles;
   settled_comes_back = settled_comes_back;
+  settles_outside = outermost (from_outside true) [] refl refl outside;
+  unsettles = λ frames h. unsettles true (from_outside false ∷ []) frames h refl refl;
   kept = refl;
   kept_settled = refl;
   looked_up = refl;

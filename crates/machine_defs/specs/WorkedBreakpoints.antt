@@ -6,7 +6,7 @@
 --                                      48 CF         iretq
 -- and of the same object with a hint at the add that says REGS_PARTIAL with offset 8 and signal 1.
 -- The words that the run pushes stand in the stack from before, so that memory stays as it is.
-use Rattle.std.specs.Prelude.{◌≡◌, ℕ, ◌==◌, true, false, List, [], ◌∷◌, ◌++◌, Option, Some, None, slice_index_or, filter, pos, if◌then◌else◌}
+use Rattle.std.specs.Prelude.{◌≡◌, ℕ, ◌==◌, Bool, true, false, List, [], ◌∷◌, ◌++◌, Option, Some, None, slice_index_or, filter, pos, if◌then◌else◌}
 use Rattle.ot_base.specs.declared.place.Place.{Place}
 use Rattle.ot_base.specs.Places.{same_place}
 use Rattle.operation_defs.specs.declared.op.Op.TheVariants.{Push, AddSp, Ret, Iret, Int3}
@@ -16,10 +16,11 @@ use Rattle.state_defs.specs.declared.state.State.TheVariants.{Regs}
 use Rattle.state_defs.specs.declared.state.HintState.TheVariants.{Set}
 use Rattle.state_defs.specs.Region.{Region}
 use Rattle.state_defs.specs.WorkedEffects.{word}
-use Rattle.state_defs.specs.Frame.{Unsaved, Frame}
+use Rattle.state_defs.specs.Frame.{Unsaved, PartialAt, Frame}
 use Rattle.machine_defs.specs.Program.{Program, below, edge, is_looked_up_behind}
 use Rattle.machine_defs.specs.Kept.{state_at}
 use Rattle.machine_defs.specs.Machine.{Standing, At}
+use Rattle.machine_defs.specs.Hint.{Settles}
 use Rattle.machine_defs.specs.Step.{Step, IsInterrupted, ReturnsFromInterrupt, interrupt_frame}
 use Rattle.machine_defs.specs.Run.{outermost}
 use Rattle.machine_defs.specs.Worked.{at, insn, framed, over}
@@ -87,6 +88,10 @@ settled = record of_breakpoint { trap = false; call = Some 1 }
 abbrev pub over_settled : ℕ → ℕ → Standing
 over_settled q rsp = standing q rsp (settled ∷ frame_of_f ∷ [])
 
+-- the frame of a breakpoint outside, or of an interrupt there
+abbrev pub from_outside : Bool → Frame
+from_outside trap = outermost (over stack 0x7FD8 0 []) 0x2000 0x8008 0 (PartialAt 0x7FD8) trap
+
 pub record Breaks : Type 0 where
   -- a breakpoint goes to the gate for breakpoints, and no other instruction does
   pub breaks : Step breaking base (At at_breakpoint) (At (over_it 2 0x7FD8))
@@ -98,6 +103,9 @@ pub record Breaks : Type 0 where
   -- a hint over an interrupt's registers settles where that is
   pub settles : Step settling base (At (over_it 2 0x7FD8)) (At (over_settled 3 0x7FD0))
   pub settled_comes_back : Step settling base (At (over_settled 4 0x7FD8)) (At behind)
+  -- one that came outside is settled where it goes back to code outside; and none is one of a breakpoint again
+  pub settles_outside : Settles settling base false (from_outside true ∷ []) (from_outside false ∷ [])
+  pub unsettles : (frames : List Frame) → Settles settling base true (from_outside false ∷ []) frames → ⊥
   -- the states at the iretq
   pub kept : state_at breaking 2 4 ≡ Some (Regs false (pos 0) true)
   pub kept_settled : state_at settling 1 4 ≡ Some (Regs false (pos 0) false)
