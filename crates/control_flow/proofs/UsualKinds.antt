@@ -80,7 +80,8 @@ same_in_program o lists p stays = ap (λ (op : Op). let it : Insn = record { len
 pub usual_is : (o : Coded) (lists : NameLists) (q : ℕ) (may_return is_entered : Bool) (transfer : ℕ) → StaysDecoded (decoded_insn o (point_at o q)).op → is_dead_end o (point_at o q) ≡ false → (may_return ≡ true) × (is_entered ≡ false) × (transfer ≡ 0) → ((other : NameLists) → is_at_entry (uncopied_program o other) q ≡ is_entered) → IsKind o lists q may_return 0 transfer (usual_kind (decoded_insn o (point_at o q)))
 unfolding usual_kind
 usual_is o lists q may_return is_entered transfer stays passed told entered = record {
-  insn = same_in_program o lists (point_at o q) stays;
+  op = ap (λ (i : Insn). i.op) (same_in_program o lists (point_at o q) stays);
+  len = ap (λ (i : Insn). i.len) (same_in_program o lists (point_at o q) stays);
   rare_number = refl;
   transfer_number = told.2;
   dead_end = passed;

@@ -163,7 +163,8 @@ module _ (o : Coded) (lists : NameLists) (parts : GraphParts) (returns : Returns
   tells_kind : (q : ℕ) (k : PointKind) → q < count_of o → IsKind o lists q (slice_index_or returns.may_return.items q false) (slice_index rares q) (slice_index transfers q) k → TellsKind (uncopied_program o lists) parts q k
   unfolding uncopied_program returning_graph graph_of
   tells_kind q k here is = record {
-    insn = is.insn;
+    op = is.op;
+    len = is.len;
     dead_end = is.dead_end;
     may_return = sym (returns_are q here) ∙ is.returns;
     entered = is.entered lists;

@@ -8,7 +8,7 @@ use Rattle.flow_defs.specs.Code.{point_at}
 use Rattle.flow_defs.specs.Program.{uncopied_program}
 use Rattle.flow_defs.specs.Switching.{insn_by}
 use Rattle.object_points.specs.Owners.{IsOwnerOf}
-use Rattle.program_graph.specs.Tells.{insn_of, place_of}
+use Rattle.program_graph.specs.Tells.{place_of}
 use Rattle.program_graph.specs.declared.parts.Owner.{Owner}
 use Rattle.program_graph.specs.declared.parts.GraphPoint.{GraphPoint}
 use Rattle.program_graph.specs.declared.parts.PointKind.{PointKind}
@@ -21,7 +21,8 @@ use Rattle.control_flow.specs.declared.rares.RareTable.{RareTable}
 -- it is the kind of point q, where it is told whether a return may come from it on, and where what few points have and its
 -- transfer stand for it
 pub record IsKind (o : Coded) (lists : NameLists) (q : ℕ) (may_return : Bool) (rare transfer : ℕ) (k : PointKind) : Type 0 where
-  pub insn : insn_by o lists (point_at o q) ≡ insn_of k
+  pub op : (insn_by o lists (point_at o q)).op ≡ k.op
+  pub len : (insn_by o lists (point_at o q)).len ≡ k.len
   pub rare_number : rare ≡ k.rare
   pub transfer_number : transfer ≡ k.transfer
   pub dead_end : is_dead_end o (point_at o q) ≡ k.is_dead_end

@@ -117,7 +117,7 @@ fn mark_of_insn(kind: &PointKind) -> usize {
     let PointKind { len, op, .. } = *kind;
     let others = u64::from(kind.rare).wrapping_mul(0x9e37_79b9_7f4a_7c15);
     let returning = if kind.may_return { 0 } else { 0x155 };
-    (hash_of(Insn { len, op }) ^ (others >> 54) as usize ^ returning) % MARKS
+    (hash_of(Insn { len, op, writes: 0 }) ^ (others >> 54) as usize ^ returning) % MARKS
 }
 
 /// The mark of a kind with another transfer, behind those of the rest. Kinds with transfers in a row have different ones.

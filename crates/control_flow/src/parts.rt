@@ -170,5 +170,7 @@ pub(crate) fn parts_of(
         texts: beside.texts,
         without_size: beside.without_size,
         linked: beside.linked,
+        // What copies of rsp make of it comes last.
+        held: Vec::new(alloc),
     })
 }

@@ -10,17 +10,17 @@ ghost use Rattle.control_flow.specs.Returns.{AreReturns};
 
 use crate::entering::list_entered;
 use crate::outgoing::EdgeList;
-use object_law::flow_laws::program_is_one;
+use object_law::flow_laws::uncopied_program_is_one;
 use ot_base::{Lists, NoMemory};
 use point_edges::{FlowPoints, object_is_in_order};
 use return_search::{Flow, Returns, StoredExit, find_returns};
 use std::alloc::Global;
 
-/// The law that the program of an object whose code is read has what is asked of programs.
-fn program_is_right(points: &FlowPoints<'_, '_, '_>, lists: &Lists)
+/// The law that the program of an object whose code is read has what is asked of programs, before copies of rsp are looked at.
+pub(crate) fn program_is_right(points: &FlowPoints<'_, '_, '_>, lists: &Lists)
     ensures { IsProgram (uncopied_program points.now lists.now) }
 {
-    program_is_one();
+    uncopied_program_is_one();
     object_is_in_order(points.places().linked());
 }
 

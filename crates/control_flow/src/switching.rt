@@ -110,6 +110,9 @@ pub(crate) fn insn(
     if !loads_stack(points.places(), switching, n) {
         return Ok(insn);
     }
-    let op = Op::BpOther;
-    Ok(Insn { op, ..insn })
+    Ok(Insn {
+        op: Op::BpOther,
+        writes: u16::MAX,
+        ..insn
+    })
 }

@@ -9,7 +9,7 @@ use Rattle.special_sections.specs.Special.{special_faults}
 use Rattle.alternatives.specs.declared.texts.SectionText.{SectionText}
 use Rattle.alternatives.specs.Faults.{AreRight}
 use Rattle.flow_defs.specs.Code.{alternatives_of, texts_of}
-use Rattle.flow_defs.specs.Program.{program_of}
+use Rattle.flow_defs.specs.Program.{program_of, uncopied_program}
 
 -- the items of the texts are bytes, as those of a file are
 abbrev pub HasBytes : Coded → Type 0
@@ -27,6 +27,10 @@ pub record ObjectIsInOrder (o : Coded) : Type 0 where
 -- The program of every object in order is one, as the laws ask.
 abbrev pub ProgramIsOne : Type 0
 ProgramIsOne = (o : Coded) (lists : NameLists) → ObjectIsInOrder o → IsProgram (program_of o lists)
+
+-- So is it before copies of rsp are looked at.
+abbrev pub UncopiedIsOne : Type 0
+UncopiedIsOne = (o : Coded) (lists : NameLists) → ObjectIsInOrder o → IsProgram (uncopied_program o lists)
 
 -- The program of every object in order is laid out as rows and walks ask.
 abbrev pub ProgramIsLaidOut : Type 0

@@ -1,6 +1,6 @@
 //! Laws over every program, and over the program of every object.
 
-ghost use Rattle.object_law.specs.Flows.{ProgramIsLaidOut, ProgramIsOne};
+ghost use Rattle.object_law.specs.Flows.{ProgramIsLaidOut, ProgramIsOne, UncopiedIsOne};
 ghost use Rattle.object_law.specs.Returning.{LevelsAreEnough};
 
 /// As many levels as there are points find every point from which a return may come, and no other.
@@ -14,6 +14,11 @@ pub fn returning()
 /// exactly the points that it tells.
 pub fn program_is_one()
     ensures { ProgramIsOne }
+{}
+
+/// So has the program before copies of rsp are looked at.
+pub fn uncopied_program_is_one()
+    ensures { UncopiedIsOne }
 {}
 
 /// In the program of every object in order each instruction has a byte, and lies where it runs in the text of
