@@ -46,7 +46,7 @@ module _ (p : Program) (is : IsProgram p) (acc : IsAccepted p) (states : ℕ →
   pub kept_along : (a q : ℕ) (s : State) (kind : EdgeKind) → is_local kind ≡ true → IsPoint p a → Kept p a s → Contains (p.goes a) (edge q kind) → can_go p a kind ≡ true → IsKept p q
   kept_along a q s kind l point k c can =
       by_hint q (local_checked p is acc a q s kind l point k c can)
-      (λ free. let m = moves p is acc a s k (no_hint_behind p a q kind l c can free) in (m.0, local_kept p is acc a q s m.0 kind l point k c can m.1 free))
+      (λ free. let m = moves p is acc a s k (no_hint_behind p a q kind l c can free) in (_, local_kept p is acc a q s m.0 kind l point k c can m.1 free))
       (λ e n. acc _ _ _ _ (reached_restore a q s (edge q kind) e n k (edge_in p is acc a q kind c can) refl))
       (p.hint q) refl
 
@@ -54,7 +54,7 @@ module _ (p : Program) (is : IsProgram p) (acc : IsAccepted p) (states : ℕ →
   pub kept_at_fixup : (a q : ℕ) (s : State) → IsPoint p a → Kept p a s → Contains (p.goes a) (edge q Fixup) → IsKept p q
   kept_at_fixup a q s point k c =
       by_hint q (fixup_checked p is acc a q s point k c)
-      (λ free. (s, fixup_kept p is acc a q s point k c free))
+      (λ free. (_, fixup_kept p is acc a q s point k c free))
       (λ e n. acc _ _ _ _ (reached_restore a q s (edge q Fixup) e n k (edge_in p is acc a q Fixup c refl) refl))
       (p.hint q) refl
 

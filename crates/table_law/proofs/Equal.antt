@@ -13,7 +13,8 @@ use Rattle.ot_base.specs.declared.row.Row.{Row}
 use Rattle.ot_base.specs.Places.{same_place}
 use Rattle.state_defs.specs.declared.state.EndKind.TheVariants.{Undefined, EndOfStack}
 use Rattle.state_defs.specs.declared.state.State.{State}
-use Rattle.state_defs.specs.declared.state.State.TheVariants.{Live, Ended, Regs}
+use Rattle.state_defs.specs.declared.state.State.TheVariants.{Live, Ended, Regs, Poised, Switched, Drap}
+use Rattle.state_defs.specs.declared.state.Phase.TheVariants.{Bare, Pushed, Framed, Homed}
 use Rattle.state_defs.specs.Row.{zero_row, row_of}
 use Rattle.machine_defs.specs.Program.{Site, in_site}
 use Rattle.unwinding_law.proofs.Same.{same_bool}
@@ -66,11 +67,17 @@ row_stable a b f =
 
 -- a state's row says that nothing is known where its state does, and else is of another kind
 pub known_or_not : (s : State) → ((row_of s ≡ zero_row) × (s ≡ Ended Undefined)) ⊎ ((row_of s).kind ≢ 0)
-known_or_not (Live depth fp home) = inr (λ e. absurd (let h : 2 ≡ 0 = e in omega arith))
+known_or_not (Live depth fp home copy) = inr (λ e. absurd (let h : 2 ≡ 0 = e in omega arith))
 known_or_not (Ended Undefined) = inl (refl, refl)
 known_or_not (Ended EndOfStack) = inr (λ e. absurd (let h : 1 ≡ 0 = e in omega arith))
-known_or_not (Regs true depth) = inr (λ e. absurd (let h : 3 ≡ 0 = e in omega arith))
-known_or_not (Regs false depth) = inr (λ e. absurd (let h : 4 ≡ 0 = e in omega arith))
+known_or_not (Regs true depth trap) = inr (λ e. absurd (let h : 3 ≡ 0 = e in omega arith))
+known_or_not (Regs false depth trap) = inr (λ e. absurd (let h : 4 ≡ 0 = e in omega arith))
+known_or_not (Poised depth fp home) = inr (λ e. absurd (let h : 2 ≡ 0 = e in omega arith))
+known_or_not (Switched depth home fp) = inr (λ e. absurd (let h : 2 ≡ 0 = e in omega arith))
+known_or_not (Drap reg (Bare depth)) = inr (λ e. absurd (let h : 2 ≡ 0 = e in omega arith))
+known_or_not (Drap reg (Pushed size)) = inr (λ e. absurd (let h : 2 ≡ 0 = e in omega arith))
+known_or_not (Drap reg (Framed size)) = inr (λ e. absurd (let h : 2 ≡ 0 = e in omega arith))
+known_or_not (Drap reg (Homed size home)) = inr (λ e. absurd (let h : 2 ≡ 0 = e in omega arith))
 
 -- a place of these numbers
 spot : ℕ → ℕ → Place

@@ -1,11 +1,11 @@
--- The row in force at the address of a kept point, and at the last byte of a call, is that of its state.
+-- The row in force at the address of a kept point, and at the last byte of a call or a breakpoint, is that of its state.
 use Rattle.std.proofs.lemmas.Bool.{and_parts}
 use Rattle.std.proofs.Common.{◌≡◌, ◌≢◌, ℕ, ◌+◌, ◌-◌, ◌<◌, ◌≤◌, ◌⊎◌, Bool, true, false, ◌&&◌, Option, Some, Contains, leb, refl, sym, ap, ◌∙◌, subst, inl, inr, le-leb, arith}
 use Rattle.std.specs.Prelude.{is_some}
 use Rattle.ot_base.specs.declared.place.Place.{Place}
 use Rattle.state_defs.specs.declared.state.State.{State}
 use Rattle.state_defs.specs.Row.{row_of}
-use Rattle.machine_defs.specs.Program.{Program, TextSection, IsPoint, Site, in_site, is_call_op}
+use Rattle.machine_defs.specs.Program.{Program, TextSection, IsPoint, Site, in_site, is_looked_up_behind}
 use Rattle.machine_defs.specs.Kept.{Kept, AreKeptStates}
 use Rattle.machine_defs.specs.Broken.{IsAccepted, KeptInSite, IsInForce, call_disagrees}
 use Rattle.machine_defs.specs.Rows.{place_in, row_at}
@@ -112,8 +112,8 @@ module _ (p : Program) (laid : IsLaidOut p) (states : ℕ → Option State) (kep
           let b = and_parts (in_site site (p.address r)) _ a.1 in
           (a.0, b.0, low_is (p.address r).off at b.1)
 
-      -- at the call's last byte the row in force is the call's, or rule 12 would warn
-      pub in_force_behind : is_call_op (p.insn q).op ≡ true → at ≡ (p.address q).off + (p.insn q).len - 1 → IsInForceAt (row_at p states) text at (row_of s)
+      -- at the last byte of a call or a breakpoint the row in force is its own, or rule 12 would warn
+      pub in_force_behind : is_looked_up_behind (p.insn q).op ≡ true → at ≡ (p.address q).off + (p.insn q).len - 1 → IsInForceAt (row_at p states) text at (row_of s)
       in_force_behind call at_is =
           let r = last_of_some begins_there (λ r. (p.address r).off) p.variant p.count q point (begins_it q s k inside low) in
           from_last r.0 r.1 (begins_is r.0 r.1.passes)

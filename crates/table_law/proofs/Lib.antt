@@ -1,5 +1,6 @@
 pub mod PlacedTables
 pub mod VisitedPlaces
+pub mod Visits
 pub mod Numbers
 pub mod StateRows
 pub mod PointLookUp

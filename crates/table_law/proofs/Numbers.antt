@@ -7,12 +7,12 @@ use Rattle.state_defs.specs.Row.{row_of, has_16_bits, unfit_offset}
 use Rattle.table_defs.specs.Walk.{offset_by}
 
 -- numbers of at most 16 bits
-abbrev IsShort : ℤ → Type 0
+abbrev pub IsShort : ℤ → Type 0
 IsShort (pos k) = k ≤ 32767
 IsShort (negsuc k) = k ≤ 32767
 
 -- those that the format holds are
-is_short : (n : ℤ) → has_16_bits n ≡ true → IsShort n
+pub is_short : (n : ℤ) → has_16_bits n ≡ true → IsShort n
 is_short (pos k) e = leb-true k 32767 e
 is_short (negsuc k) e = leb-true k 32767 (first (nat_le k 32767) true e)
   where

@@ -1,14 +1,19 @@
 -- Where a walk looks a point up, and what it finds there.
-use Rattle.std.proofs.Common.{◌≡◌, ℕ, ◌+◌, ◌^◌, ◌<◌, ◌≤◌, Bool, true, false, not, List, Option, Some, None, MatchBool, sym, ap, ◌∙◌, subst, inl, inr, arith}
+use Rattle.std.proofs.Common.{◌≡◌, ℕ, ◌+◌, ◌^◌, ◌<◌, ◌≤◌, ◌||◌, Bool, true, false, not, if◌then◌else◌, List, Option, Some, None, MatchBool, refl, sym, ap, ◌∙◌, subst, inl, inr, arith}
+use Rattle.operation_defs.specs.declared.op.Op.{Op}
+use Rattle.operation_defs.specs.declared.op.Op.TheVariants.{Int3}
 use Rattle.ot_base.specs.declared.row.PlacedRow.{PlacedRow}
 use Rattle.state_defs.specs.declared.state.EndKind.TheVariants.{Undefined}
 use Rattle.state_defs.specs.declared.state.State.{State}
 use Rattle.state_defs.specs.Address.{down}
 use Rattle.state_defs.specs.State.{ended_by}
 use Rattle.state_defs.specs.Row.{row_of}
-use Rattle.machine_defs.specs.Program.{Program, IsPoint, is_call}
+use Rattle.state_defs.specs.Frame.{Frame, is_of_call}
+use Rattle.machine_defs.specs.Program.{Program, IsPoint, is_call, is_call_op, is_looked_up_behind}
 use Rattle.machine_defs.specs.Machine.{Bases, IsOutside, point_address, return_address}
-use Rattle.machine_defs.specs.IsProgram.{IsInText}
+use Rattle.machine_defs.specs.Step.{interrupt_address}
+use Rattle.machine_defs.specs.IsProgram.{IsProgram, IsInText}
+use Rattle.machine_defs.specs.Law.{GoesBack, GoesOut, is_looked_up_before}
 use Rattle.table_defs.specs.declared.range.Range.{Range}
 use Rattle.table_defs.specs.Placement.{is_inside}
 use Rattle.table_defs.specs.Lookup.{find_row}
@@ -18,10 +23,10 @@ use Rattle.table_defs.specs.Tells.{TellsState, TellsPoint}
 use Rattle.table_law.proofs.PlacedTables.{text_inside, stands_within, outside_ranges}
 
 -- A walk with this ip looks at a point: at its address, where ip is that of the next instruction, or
--- right before the address behind it, where it is a call.
+-- right before the address behind it, where it is a call or a breakpoint.
 abbrev pub LooksAt : Program → Bases → Bool → ℕ → ℕ → Type 0
 LooksAt p bases true ip q = ip ≡ point_address p bases q
-LooksAt p bases false ip q = (ip ≡ return_address p bases q) × (is_call (p.role q) ≡ true)
+LooksAt p bases false ip q = (ip ≡ return_address p bases q) × (is_looked_up_behind (p.insn q).op ≡ true)
 
 module _ (p : Program) (bases : Bases) (ranges : List Range) (placed : IsPlacedBy p bases ranges) where
   -- the address that it looks up is in a section
@@ -41,18 +46,33 @@ module _ (p : Program) (bases : Bases) (ranges : List Range) (placed : IsPlacedB
       last_byte address len from to a b c d = (omega arith, omega arith)
 
   -- one that leads outside
-  pub not_inside : (signal b : Bool) (ra : ℕ) → b ≡ not signal → MatchBool b (IsOutside p bases (down ra 1)) (IsOutside p bases ra) → is_inside ranges (lookup_address signal ra) ≡ false
-  not_inside true true ra e out = absurd (let k : ⊥ = cc in k)
-  not_inside true false ra e out = outside_ranges p bases ranges placed ra out
-  not_inside false true ra e out = outside_ranges p bases ranges placed (down ra 1) out
-  not_inside false false ra e out = absurd (let k : ⊥ = cc in k)
+  pub not_inside : (signal : Bool) (f : Frame) → is_looked_up_before f ≡ not signal → GoesOut p bases f → is_inside ranges (lookup_address signal f.ra) ≡ false
+  not_inside signal f e out = go signal (is_looked_up_before f) e out
+    where
+      go : (signal b : Bool) → b ≡ not signal → IsOutside p bases (if b then down f.ra 1 else f.ra) → is_inside ranges (lookup_address signal f.ra) ≡ false
+      go true true e out = absurd (let k : ⊥ = cc in k)
+      go true false e out = outside_ranges p bases ranges placed f.ra out
+      go false true e out = outside_ranges p bases ranges placed (down f.ra 1) out
+      go false false e out = absurd (let k : ⊥ = cc in k)
+
+-- a call is looked up behind, and so is a breakpoint
+call_behind : (op : Op) → is_call_op op ≡ true → is_looked_up_behind op ≡ true
+call_behind op e = rw e refl
+
+breakpoint_behind : (op : Op) → op ≡ Int3 → is_looked_up_behind op ≡ true
+breakpoint_behind op e = ap is_looked_up_behind e
 
 -- a frame goes back to where the walk looks next
-pub looks_back : (p : Program) (bases : Bases) (call : ℕ) (signal b : Bool) (ra : ℕ) → b ≡ not signal → MatchBool b ((ra ≡ return_address p bases call) × (is_call (p.role call) ≡ true)) (ra ≡ point_address p bases call) → LooksAt p bases signal ra call
-looks_back p bases call true true ra e h = absurd (let k : ⊥ = cc in k)
-looks_back p bases call true false ra e h = h
-looks_back p bases call false true ra e h = h
-looks_back p bases call false false ra e h = absurd (let k : ⊥ = cc in k)
+pub looks_back : (p : Program) (bases : Bases) → IsProgram p → (call : ℕ) → IsPoint p call → (signal : Bool) (f : Frame) → is_looked_up_before f ≡ not signal → GoesBack p bases call f → LooksAt p bases signal f.ra call
+looks_back p bases is call point signal f e h = go signal (is_of_call f.slot) f.trap e h
+  where
+    go : (signal b trap : Bool) → (b || trap) ≡ not signal → MatchBool b ((f.ra ≡ return_address p bases call) × (is_call (p.role call) ≡ true)) ((f.ra ≡ interrupt_address p bases trap call) × (trap ≡ true → (p.insn call).op ≡ Int3)) → LooksAt p bases signal f.ra call
+    go true true trap e h = absurd (let k : ⊥ = cc in k)
+    go false true trap e h = (h.0, call_behind (p.insn call).op (is.calls call point h.1))
+    go true false true e h = absurd (let k : ⊥ = cc in k)
+    go false false true e h = (h.0, breakpoint_behind (p.insn call).op (h.1 refl))
+    go true false false e h = h.0
+    go false false false e h = absurd (let k : ⊥ = cc in k)
 
 -- what is told of the point is found there
 pub told_there : (p : Program) (bases : Bases) (rows : List PlacedRow) (ranges : List Range) (q : ℕ) (state : State) (next : Bool) (ip : ℕ) → TellsPoint p bases rows ranges q state → LooksAt p bases next ip q → TellsState state (find_row rows ranges (lookup_address next ip))

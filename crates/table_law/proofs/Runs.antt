@@ -1,7 +1,8 @@
 -- A run stands in a site only where the site's start is kept.
-use Rattle.std.proofs.Common.{◌≡◌, ℕ, Bool, true, false, List, ◌∷◌, Option, Some, IfSome, MatchBool, Contains, refl, sym, subst, inl, inr, pos}
+use Rattle.std.proofs.Common.{◌≡◌, ℕ, Bool, true, false, List, ◌∷◌, Option, Some, IfSome, MatchBool, All, Contains, refl, sym, subst, inl, inr, pos}
 use Rattle.std.proofs.lemmas.List.Elements.{All-head}
 use Rattle.ot_base.specs.declared.place.Place.{Place}
+use Rattle.operation_defs.specs.declared.op.Op.TheVariants.{Int3}
 use Rattle.machine_defs.specs.declared.flow.EdgeKind.TheVariants.{Next}
 use Rattle.machine_defs.specs.declared.flow.Role.{Role}
 use Rattle.machine_defs.specs.declared.flow.Role.TheVariants.{CallIn, CallEither, CallAny}
@@ -9,8 +10,8 @@ use Rattle.state_defs.specs.declared.state.State.{State}
 use Rattle.state_defs.specs.declared.state.State.TheVariants.{Regs}
 use Rattle.state_defs.specs.Frame.{Frame}
 use Rattle.machine_defs.specs.Program.{Program, IsPoint, Site, in_site, entry_points, is_call, edge}
-use Rattle.machine_defs.specs.Machine.{Bases, Standing, point_address, return_address}
-use Rattle.machine_defs.specs.Step.{op_at, GoesOn, Faults, IsTarget, CallsIn, CallsOut, Returns, JumpsTo, sibling, indirect, TailCalls, IsInterrupted, ReturnsFromInterrupt}
+use Rattle.machine_defs.specs.Machine.{Bases, Standing, return_address}
+use Rattle.machine_defs.specs.Step.{op_at, GoesOn, Faults, IsTarget, CallsIn, CallsOut, Returns, JumpsTo, sibling, indirect, TailCalls, interrupt_address, IsInterrupted, ReturnsFromInterrupt, ReturnsFromBreakpoint}
 use Rattle.machine_defs.specs.Run.{MayStart}
 use Rattle.machine_defs.specs.MayReturn.{target_may_return}
 use Rattle.machine_defs.specs.Kept.{Kept, AreKeptStates}
@@ -21,10 +22,10 @@ use Rattle.table_defs.specs.Enters.{EntersSites}
 use Rattle.unwinding_law.proofs.WaysOn.{acts_no_call, called_is_set}
 use Rattle.unwinding_law.proofs.Shadow.{effect_no_call}
 use Rattle.unwinding_law.proofs.Backs.{inner_of, comes_back_to}
-use Rattle.unwinding_law.proofs.Edges.{plain_role, may_go, call_next_in}
+use Rattle.unwinding_law.proofs.Edges.{plain_role, may_go, call_next_in, breakpoint_next_in, breakpoint_back}
 use Rattle.unwinding_law.proofs.ComesBack.{out_calls}
 use Rattle.unwinding_law.proofs.KeptStates.{set_kept}
-use Rattle.table_law.proofs.VisitedPlaces.{calls, AllHave}
+use Rattle.table_law.proofs.VisitedPlaces.{Passes}
 use Rattle.table_law.proofs.Enters.{IsEntered, entered_local, entered_fixup, entered_sibling, entered_entry}
 
 module _ (p : Program) (bases : Bases) (is : IsProgram p) (laid : IsLaidOut p) (acc : IsAccepted p) (states : ℕ → Option State) (kept : AreKeptStates p states) (enters : EntersSites p) where
@@ -39,7 +40,17 @@ module _ (p : Program) (bases : Bases) (is : IsProgram p) (laid : IsLaidOut p) (
   pub hint_entered_start : (q : ℕ) (s : State) → MayStart p s q → IsEntered p q
   hint_entered_start q s may = starts_site may.plain_point q may.point may.plain may.outside may.arrives s (set_kept p may.plain_point s may.checked may.hinted)
 
-  module _ (s t : Standing) (r : HasRunInvariant p s) (f : HasFrameInvariant p bases s) (here : IsEntered p s.point) (behind : AllHave (IsEntered p) (calls s.core.shadow)) where
+  -- control that goes on behind a kept breakpoint
+  behind_entered : (call q : ℕ) (s : State) → IsPoint p call → Kept p call s → IsEntered p call → (p.insn call).op ≡ Int3 → p.dead_end call ≡ false → Contains (p.after call) q → IsEntered p q
+  behind_entered call q s point k here op passed c =
+      let next : Contains (p.goes call) (edge q Next) = breakpoint_next_in p is acc call q s point k op passed c in
+      entered_local p is acc states kept enters call q s Next here refl point k next (breakpoint_back p is acc call point op)
+
+  -- where it passes to
+  pub passes_entered : (call q : ℕ) (s : State) → IsPoint p call → Kept p call s → IsEntered p call → Passes p bases call q → IsEntered p q
+  passes_entered call q s point k here passes = behind_entered call q s point k here passes.op passes.passed passes.behind_it
+
+  module _ (s t : Standing) (r : HasRunInvariant p s) (f : HasFrameInvariant p bases s) (here : IsEntered p s.point) (behind : All (λ f. IfSome f.call (IsEntered p)) s.core.shadow) where
     -- an instruction goes on
     pub goes_on_entered : GoesOn p s t → IsEntered p t.point
     goes_on_entered g =
@@ -79,8 +90,8 @@ module _ (p : Program) (bases : Bases) (is : IsProgram p) (laid : IsLaidOut p) (
     -- the point where the top frame comes from
     top_call : (g : Frame) (below : List Frame) (call : ℕ) → s.core.shadow ≡ g ∷ below → g.call ≡ Some call → IsEntered p call
     top_call g below call shadow called =
-        let all : AllHave (IsEntered p) (calls (g ∷ below)) = subst (λ (x : List Frame). AllHave (IsEntered p) (calls x)) shadow behind in
-        subst (λ (o : Option ℕ). IfSome o (IsEntered p)) called (All-head (λ (o : Option ℕ). IfSome o (IsEntered p)) g.call (calls below) all)
+        let all : All (λ f. IfSome f.call (IsEntered p)) (g ∷ below) = subst (λ (x : List Frame). All (λ f. IfSome f.call (IsEntered p)) x) shadow behind in
+        subst (λ (o : Option ℕ). IfSome o (IsEntered p)) called (All-head (λ f. IfSome f.call (IsEntered p)) g below all)
 
     -- it returns
     pub returns_entered : Returns p s t → IsEntered p t.point
@@ -88,7 +99,7 @@ module _ (p : Program) (bases : Bases) (is : IsProgram p) (laid : IsLaidOut p) (
         let both = inner_of p bases s.point h.call h.frame h.below (subst (λ (x : List Frame). AreFrames p bases s.point x) h.shadow f.frames) h.called in
         let i : IsInnerFrame p bases s.point h.call h.frame h.below = both.0 in
         let k = i.call_kept in
-        let call : is_call (p.role h.call) ≡ true = (subst (λ (b : Bool). MatchBool b ((h.frame.ra ≡ return_address p bases h.call) × (is_call (p.role h.call) ≡ true)) (h.frame.ra ≡ point_address p bases h.call)) h.ready.of_call i.goes_back).1 in
+        let call : is_call (p.role h.call) ≡ true = (subst (λ (b : Bool). MatchBool b ((h.frame.ra ≡ return_address p bases h.call) × (is_call (p.role h.call) ≡ true)) ((h.frame.ra ≡ interrupt_address p bases h.frame.trap h.call) × (h.frame.trap ≡ true → (p.insn h.call).op ≡ Int3))) h.ready.of_call i.goes_back).1 in
         let back : target_may_return p h.call ≡ true = comes_back_to p is s t r.point h (i.comes_back h.ready.of_call) in
         let next : Contains (p.goes h.call) (edge t.point Next) = call_next_in p is acc h.call t.point k.state i.point k.kept call h.passed h.comes_back in
         entered_local p is acc states kept enters h.call t.point k.state Next (top_call h.frame h.below h.call h.shadow h.called) refl i.point k.kept next back
@@ -104,9 +115,17 @@ module _ (p : Program) (bases : Bases) (is : IsProgram p) (laid : IsLaidOut p) (
     -- a gate is in no site past its start
     pub interrupted_entered : IsInterrupted p bases s t → IsEntered p t.point
     interrupted_entered h =
-        let state : State = Regs false (pos h.n) in
+        let state : State = Regs false (pos h.n) h.trap in
         starts_site h.entered t.point h.gate.point h.gate.plain h.gate.at_start h.arrives state (set_kept p h.entered state (is.unowned h.entered h.gate.point h.gate.free) h.gate.hint)
 
     -- it returns from an interrupt
     pub irets_entered : ReturnsFromInterrupt p s t → IsEntered p t.point
     irets_entered h = top_call h.frame h.below t.point h.shadow h.interrupted
+
+    -- it returns from a breakpoint
+    pub irets_behind_entered : ReturnsFromBreakpoint p s t → IsEntered p t.point
+    irets_behind_entered h =
+        let both = inner_of p bases s.point h.call h.frame h.below (subst (λ (x : List Frame). AreFrames p bases s.point x) h.shadow f.frames) h.called in
+        let i : IsInnerFrame p bases s.point h.call h.frame h.below = both.0 in
+        let op : (p.insn h.call).op ≡ Int3 = (subst (λ (b : Bool). MatchBool b ((h.frame.ra ≡ return_address p bases h.call) × (is_call (p.role h.call) ≡ true)) ((h.frame.ra ≡ interrupt_address p bases h.frame.trap h.call) × (h.frame.trap ≡ true → (p.insn h.call).op ≡ Int3))) h.ready.of_interrupt i.goes_back).1 h.of_breakpoint in
+        behind_entered h.call t.point i.call_kept.state i.point i.call_kept.kept (top_call h.frame h.below h.call h.shadow h.called) op h.passed h.comes_back

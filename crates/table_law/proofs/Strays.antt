@@ -12,7 +12,7 @@ use Rattle.table_law.specs.WorkedWalks.{ranges, stray_rows, StraysWorked}
 
 -- the words of the stack after the push
 abbrev memory : Memory
-memory = λ address. word_at after_push.core.region address
+memory = λ address. word_at after_push.core.memory address
 
 -- the frame that the walk gives instead
 abbrev stray : Frame

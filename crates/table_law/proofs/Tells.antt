@@ -6,7 +6,7 @@ use Rattle.state_defs.specs.declared.state.State.TheVariants.{Ended}
 use Rattle.state_defs.specs.Address.{down}
 use Rattle.ot_base.specs.declared.row.Row.{Row}
 use Rattle.state_defs.specs.Row.{zero_row, row_of}
-use Rattle.machine_defs.specs.Program.{Program, TextSection, IsPoint, is_call}
+use Rattle.machine_defs.specs.Program.{Program, TextSection, IsPoint, is_looked_up_behind}
 use Rattle.machine_defs.specs.Machine.{Bases, return_address}
 use Rattle.machine_defs.specs.Kept.{Kept, AreKeptStates}
 use Rattle.machine_defs.specs.Broken.{IsAccepted}
@@ -63,11 +63,11 @@ module _ (found : FoundIsLast) (none : NoneFoundIsNone) (p : Program) (bases : B
       | inr site ↦ in_force_here p laid states kept q s point k text sec fits acc site.0 site.2 (entered site.0 site.2 site.3) site.3 (laid.in_text.lengths q point)
     ]
 
-    -- the row in force at a call's last byte
-    in_force_last : is_call (p.role q) ≡ true → IsInForceAt (row_at p states) text ((p.address q).off + (p.insn q).len - 1) (row_of s)
-    in_force_last call = elim (outside_or_in p laid (p.address q)) [
+    -- the row in force at the last byte of a call or a breakpoint
+    in_force_last : is_looked_up_behind (p.insn q).op ≡ true → IsInForceAt (row_at p states) text ((p.address q).off + (p.insn q).len - 1) (row_of s)
+    in_force_last behind = elim (outside_or_in p laid (p.address q)) [
       | inl out ↦ in_force_outside p laid states kept q s point k text sec fits out.1 ((p.address q).off + (p.insn q).len - 1) (let l = laid.in_text.lengths q point in omega arith) (let l = laid.in_text.lengths q point in omega arith)
-      | inr site ↦ in_force_behind p laid states kept q s point k text sec fits acc site.0 site.2 (entered site.0 site.2 site.3) site.3 (λ r t h. only r t h.kept) ((p.address q).off + (p.insn q).len - 1) (let l = laid.in_text.lengths q point in omega arith) (let l = laid.in_text.lengths q point in omega arith) (is.calls q point call) refl
+      | inr site ↦ in_force_behind p laid states kept q s point k text sec fits acc site.0 site.2 (entered site.0 site.2 site.3) site.3 (λ r t h. only r t h.kept) ((p.address q).off + (p.insn q).len - 1) (let l = laid.in_text.lengths q point in omega arith) (let l = laid.in_text.lengths q point in omega arith) behind refl
     ]
 
     -- where the last byte lies
@@ -82,7 +82,7 @@ module _ (found : FoundIsLast) (none : NoneFoundIsNone) (p : Program) (bases : B
     tells_point : TellsPoint p bases (rows_of p states) ranges q s
     tells_point = record {
       at = subst (λ (n : ℕ). TellsState s (find_row (rows_of p states) ranges (bases n + (p.address q).off))) sec (tells_in_force states s text (p.address q).off listed (let l = laid.in_text.lengths q point in omega arith) in_force_at);
-      last_byte = λ call. subst (λ (n : ℕ). TellsState s (find_row (rows_of p states) ranges n)) (sym last_is) (tells_in_force states s text ((p.address q).off + (p.insn q).len - 1) listed (let l = laid.in_text.lengths q point in omega arith) (in_force_last call));
+      last_byte = λ behind. subst (λ (n : ℕ). TellsState s (find_row (rows_of p states) ranges n)) (sym last_is) (tells_in_force states s text ((p.address q).off + (p.insn q).len - 1) listed (let l = laid.in_text.lengths q point in omega arith) (in_force_last behind));
     }
 
 -- the law

@@ -4,7 +4,7 @@ use Rattle.std.proofs.lemmas.Bool.{and_parts, ltb-true}
 use Rattle.std.proofs.lemmas.List.Sorted.{IsPermutation-refl}
 use Rattle.state_defs.specs.Address.{down}
 use Rattle.state_defs.specs.Row.{row_of}
-use Rattle.machine_defs.specs.Program.{TextSection, is_call}
+use Rattle.machine_defs.specs.Program.{TextSection, is_looked_up_behind}
 use Rattle.machine_defs.specs.IsProgram.{IsInText}
 use Rattle.machine_defs.specs.Machine.{At, point_address, return_address}
 use Rattle.table_defs.specs.declared.range.Range.{Range}
@@ -16,7 +16,7 @@ use Rattle.table_defs.specs.TableLaws.{WalkLaw}
 use Rattle.unwinding_law.specs.Worked.{worked, state_of, base, after_push}
 use Rattle.unwinding_law.proofs.Elements.{each, two}
 use Rattle.unwinding_law.proofs.Lists.{here, there}
-use Rattle.unwinding_law.proofs.WorkedProgram.{one_call, program}
+use Rattle.unwinding_law.proofs.WorkedProgram.{never, program}
 use Rattle.unwinding_law.proofs.WorkedStates.{of_state, accepted}
 use Rattle.unwinding_law.proofs.WorkedRun.{text, replacement, runs}
 use Rattle.table_law.specs.WorkedWalks.{ranges, rows, WalksWorked}
@@ -72,9 +72,13 @@ placed = record {
 found : (q : ℕ) → IfSome (state_of q) (λ s. find_row rows ranges (point_address worked base q) ≡ Some (row_of s))
 found = each (λ q. IfSome (state_of q) (λ s. find_row rows ranges (point_address worked base q) ≡ Some (row_of s))) refl refl refl refl refl refl refl refl tt refl refl (λ q. tt)
 
+-- a walk looks behind the call alone
+one_looked_up : (q : ℕ) → is_looked_up_behind (worked.insn q).op ≡ true → q ≡ 0
+one_looked_up = each (λ q. is_looked_up_behind (worked.insn q).op ≡ true → q ≡ 0) (λ _. refl) never never never never never never never never never never (λ q. never)
+
 -- and at the call's last byte
-found_last : (q : ℕ) → is_call (worked.role q) ≡ true → IfSome (state_of q) (λ s. find_row rows ranges (down (return_address worked base q) 1) ≡ Some (row_of s))
-found_last q e = subst (λ (x : ℕ). IfSome (state_of x) (λ s. find_row rows ranges (down (return_address worked base x) 1) ≡ Some (row_of s))) (sym (one_call q e)) refl
+found_last : (q : ℕ) → is_looked_up_behind (worked.insn q).op ≡ true → IfSome (state_of q) (λ s. find_row rows ranges (down (return_address worked base q) 1) ≡ Some (row_of s))
+found_last q e = subst (λ (x : ℕ). IfSome (state_of x) (λ s. find_row rows ranges (down (return_address worked base x) 1) ≡ Some (row_of s))) (sym (one_looked_up q e)) refl
 
 -- so the rows tell the states
 pub tells : TellsStates worked base rows ranges

@@ -10,8 +10,8 @@ use table_defs::find_is_exact;
 use unwinding_law::unwinding_law;
 
 /// The rows of an accepted program tell its kept states: at the address of each point to which runs come,
-/// and of a call also at its last byte, the row of the point's state is found in the table. Where nothing
-/// is known of the stack, that row or none is.
+/// and of a call or breakpoint also at its last byte, the row of the point's state is found in the table. Where
+/// nothing is known of the stack, that row or none is.
 pub fn rows_tell()
     ensures { RowsTell }
 {
@@ -20,8 +20,8 @@ pub fn rows_tell()
 }
 
 /// So they unwind it: wherever an accepted program is placed, no run's stack is wrecked, and in each state
-/// of each run the walk over the program's rows gives exactly the frames of the machine, and stops where
-/// they end.
+/// of each run the walk over the program's rows gives exactly the frames of the machine, on whichever stacks
+/// they lie, and stops where they end, or at the register that a frame's top is in.
 pub fn rows_unwind()
     ensures { RowsUnwind }
 {

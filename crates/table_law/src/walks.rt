@@ -14,8 +14,9 @@ pub fn ranges_are_placement()
 {}
 
 /// Wherever an accepted program is placed: a table that has, at each point to which runs come and at the
-/// last byte of each call, the row of the state that is kept there, walks in every state of every run to
-/// exactly the frames of the machine, and stops where they end.
+/// last byte of each call and breakpoint, the row of the state that is kept there, walks in every state of
+/// every run to exactly the frames of the machine, and stops where they end, or at the register that a frame's
+/// top is in.
 pub fn walk_law()
     ensures { WalkLaw }
 {
