@@ -6,6 +6,7 @@ pub mod Hinted
 pub mod Judged
 pub mod Kinds
 pub mod Listed
+pub mod Losses
 pub mod Lone
 pub mod Named
 pub mod NamedAt

@@ -9,6 +9,7 @@ mod kinds;
 mod listed;
 mod lists;
 mod lone_jumps;
+mod losses;
 mod low;
 mod numbers;
 mod outgoing;
