@@ -16,3 +16,4 @@ pub mod Exact
 pub mod OnlyDecoded
 pub mod Extends
 pub mod Worked
+pub mod TellsWrites
