@@ -16,4 +16,3 @@ pub mod Exact
 pub mod OnlyDecoded
 pub mod Extends
 pub mod Worked
-pub mod TellsWrites

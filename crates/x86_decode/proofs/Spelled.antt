@@ -369,11 +369,11 @@ noted_all-none map legacy = noted_all-is legacy (no_prefixes map)
 
 -- ---- whole spellings
 
-pub AllBytes-append_right : (xs ys : List ℕ) → IsBytes (xs ++ ys) → IsBytes ys
+AllBytes-append_right : (xs ys : List ℕ) → IsBytes (xs ++ ys) → IsBytes ys
 AllBytes-append_right [] ys h = h
 AllBytes-append_right (x ∷ xs) ys h = AllBytes-append_right xs ys h.1
 
-pub opcode_is_byte : (opcode : Opcode) (rest : List ℕ) → IsBytes (opcode_bytes opcode ++ rest) → byte_of opcode < 256
+opcode_is_byte : (opcode : Opcode) (rest : List ℕ) → IsBytes (opcode_bytes opcode ++ rest) → byte_of opcode < 256
 opcode_is_byte (one_byte o) rest h = h.0
 opcode_is_byte (two_byte o) rest h = h.1.0
 opcode_is_byte (three_byte o) rest h = h.1.1.0

@@ -1,9 +1,8 @@
 -- When decoding gives which answer.
-use Rattle.std.specs.Prelude.{◌≡◌, true, ℕ, ◌-◌, ◌<◌, ◌≤◌, nat_lt, if◌then◌else◌, List, ◌++◌, length, take, ◌⊎◌, Option, Some, None, Result, Ok, Err}
+use Rattle.std.specs.Prelude.{◌≡◌, ℕ, ◌-◌, ◌<◌, ◌≤◌, nat_lt, if◌then◌else◌, List, ◌++◌, length, take, ◌⊎◌, Option, Some, None, Result, Ok, Err}
 use Rattle.std.specs.List.{AllByRecursion}
 use Rattle.operation_defs.specs.declared.insn.Insn.{Insn}
 use Rattle.operation_defs.specs.declared.op.Op.TheVariants.{Ud2}
-use Rattle.operation_defs.specs.Made.{has_register, is_told, tells_write}
 use Rattle.x86_map.specs.declared.map.Map.{Map}
 use Rattle.x86_decode.specs.declared.DecodeFault.{DecodeFault}
 use Rattle.x86_decode.specs.declared.DecodeFault.TheVariants.{Cut, Outside, Long}
@@ -51,10 +50,6 @@ OneInFront =
     (map : Map) (bytes others : List ℕ) (insn : Insn) → AllByRecursion (λ b. b < 256) others → StandsInFront map bytes insn
     → take insn.len others ≡ take insn.len bytes
     → StandsInFront map others insn ⊎ ((insn ≡ ud2) × (other : Insn) × IsEmulated map others other)
-
--- where it writes r10 or r13, its operation tells that
-abbrev pub TellsWrites : Insn → Type 0
-TellsWrites insn = (r : ℕ) → is_told r ≡ true → has_register insn.writes r ≡ true → tells_write r insn.op ≡ true
 
 -- ---- by reading
 

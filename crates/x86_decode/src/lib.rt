@@ -6,7 +6,7 @@ ghost use Rattle.std.specs.Prelude.{◌≡◌, true, ◌<◌, ◌≤◌, ◌↔�
 ghost use Rattle.operation_defs.specs.Made.{is_decoded};
 ghost use Rattle.x86_decode.specs.MapLaw.{MapIsExact, WholeExtendsBase, WholeStandsAlike};
 ghost use Rattle.x86_decode.specs.Worked.{HasWorkedOperations, HasWorkedWrites, HasWorkedWhole};
-ghost use Rattle.x86_decode.specs.Decoding.{StandsInFront, EndsOutside, IsCut, IsTooLong, OneInFront, OneOutcome, OneSpelling, TellsWrites, decoded, read_in_front};
+ghost use Rattle.x86_decode.specs.Decoding.{StandsInFront, EndsOutside, IsCut, IsTooLong, OneInFront, OneOutcome, OneSpelling, decoded, read_in_front};
 
 mod action;
 mod emulated;
@@ -49,8 +49,6 @@ pub fn decode(map: Map, bytes: &[u8]) -> Result<Insn, DecodeFault>
         (0 < insn.len) × (insn.len ≤ 15) × (insn.len ≤ length bytes.now)) }
     // Some operations only a program has: nothing that the bytes say makes them.
     ensures only_decoded { IfOk result (λ insn. is_decoded insn.op ≡ true) }
-    // Where it writes r10 or r13, its operation tells that.
-    ensures tells_writes { IfOk result TellsWrites }
 {
     decode_front(map, bytes)
 }

@@ -4,7 +4,6 @@ use Rattle.x86_decode.specs.declared.DecodeFault.TheVariants.{Cut, Outside, Long
 use Rattle.x86_decode.specs.Decoding.{Outcome}
 use Rattle.x86_decode.proofs.Decided.{bytes_from_each, outcome, decides, lengths}
 use Rattle.x86_decode.proofs.OnlyDecoded.{only_decoded}
-use Rattle.x86_decode.proofs.TellsWrites.{tells}
 use Rattle.x86_decode.proofs.decode.Goals as goal
 
 pub returns-clause-ok : goal.returns-clause-ok
@@ -25,8 +24,4 @@ returns-clause-within c = lengths c.args.map c.args.bytes.now c.decode_front.res
 
 pub returns-clause-only_decoded : goal.returns-clause-only_decoded
 returns-clause-only_decoded c = only_decoded c.args.map c.args.bytes.now c.decode_front.result
-    (subst (Outcome c.args.map c.args.bytes.now) (sym c.decode_front.ensures) (outcome c.args.map c.args.bytes.now (bytes_from_each c.args.bytes.now (λ k. omega (arith, c.type_inv.bytes k)))))
-
-pub returns-clause-tells_writes : goal.returns-clause-tells_writes
-returns-clause-tells_writes c = tells c.args.map c.args.bytes.now c.decode_front.result
     (subst (Outcome c.args.map c.args.bytes.now) (sym c.decode_front.ensures) (outcome c.args.map c.args.bytes.now (bytes_from_each c.args.bytes.now (λ k. omega (arith, c.type_inv.bytes k)))))
