@@ -49,7 +49,7 @@ fn push_point(
 {
     push_calls_on(graph, table, into, ways, n)?;
     push_exits(graph, into, ways, n)?;
-    push_operation(into, graph.place(n), graph.insn(n).op, graph.owner(n), ways)
+    push_operation(into, graph.place(n), graph.op(n), graph.owner(n), ways)
 }
 
 /// The rules 41 to 47 at each point.

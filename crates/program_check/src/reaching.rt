@@ -128,7 +128,7 @@ fn follow(
     ensures goes_on { OnOk result (GoesOn (length graph.now.parts.points.items) search.old search.new) }
     ensures search { OnOk result ((p : Program) (allowed : Allowances) → Tracks p allowed graph.now.parts table.now → IsSearch p allowed search.old.ways.items (visit ∷ search.old.pending.items) → IsSearch p allowed search.new.ways.items search.new.pending.items) }
 {
-    let op = graph.insn(visit.point).op;
+    let op = graph.op(visit.point);
     for edge in graph.successors(visit.point) {
         follow_along(table, search, visit, op, *edge)?;
     }

@@ -39,7 +39,7 @@ fn is_unsafe_branch(graph: &Graph, table: &AllowanceTable, options: Options, n: 
     ensures { (p : Program) (allowed : Allowances) → Tells p graph.now.parts → Allows allowed table.now p.count → IsTrue result ↔ IsUnsafeBranch p allowed options n }
 {
     options.retpoline
-        && is_indirect_branch(graph.insn(n).op)
+        && is_indirect_branch(graph.op(n))
         && !table.is_safe_branch(n)
         && !table.is_before_user_space(n)
 }
@@ -52,7 +52,7 @@ fn is_unsafe_return(graph: &Graph, table: &AllowanceTable, options: Options, n: 
     ensures { (p : Program) (allowed : Allowances) → Tells p graph.now.parts → Allows allowed table.now p.count → IsTrue result ↔ IsUnsafeReturn p allowed options n }
 {
     options.rethunk
-        && is_return(graph.insn(n).op)
+        && is_return(graph.op(n))
         && !table.is_safe_branch(n)
         && !table.is_before_user_space(n)
 }

@@ -36,7 +36,8 @@ fn may_be_called(state: State) -> bool
 {
     match state {
         State::Live { .. } | State::Ended(_) => true,
-        State::Regs { .. } => false,
+        State::Regs { .. } | State::Poised { .. } | State::Switched { .. } | State::Drap { .. } =>
+            false,
     }
 }
 

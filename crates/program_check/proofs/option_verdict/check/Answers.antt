@@ -1,5 +1,8 @@
 -- Where a rule of the stack is broken, its warnings are among all.
-use Rattle.std.proofs.Common.{option_copied, sym, subst, inl}
+use Rattle.std.proofs.Common.{List, Option, option_copied, sym, subst, inl}
+use Rattle.std.proofs.lemmas.Result.{IfOk-weaker}
+use Rattle.state_defs.specs.declared.state.State.{State}
+use Rattle.program_check.specs.OptionVerdict.{IsAskable, IsVerdict}
 use Rattle.program_graph.specs.declared.parts.GraphParts.{GraphParts}
 use Rattle.program_check.specs.Verdict.{IsStackVerdict}
 use Rattle.program_check.proofs.Empty.{element}
@@ -22,3 +25,13 @@ returns-in_ok-with_asked-in-Broken c = λ p allowed ask.
       ascending = c.in_ok-with_asked-in-Broken.ensures.ascending;
       all = all_warned p allowed c.args.options stack all verdict.broken gains;
     }
+
+pub returns-in-Accepted : goal.returns-in-Accepted
+returns-in-Accepted c = IfOk-weaker c.if_clean.result _ _ (λ verdict is p allowed ask.
+    let parts = c.args.graph.parts in
+    let accepted = subst (IsStackVerdict p c.args.options parts c.args.kept) c.in-Accepted.is (c.in_ok-checked.ensures p ask.checkable) in
+    let now = subst (λ (g : GraphParts). IsAskable p allowed g c.in-Accepted.checked.kept (option_copied c.args.table)) (sym accepted.graph)
+    (subst (λ (states : List (Option State)). IsAskable p allowed parts states (option_copied c.args.table)) (sym accepted.kept) ask) in
+    let found = is p allowed now (record { accepted = accepted.accepted; unbroken = accepted.unbroken }) in
+    subst (λ (g : GraphParts). IsVerdict p allowed c.args.options g c.args.kept verdict) accepted.graph
+    (subst (λ (states : List (Option State)). IsVerdict p allowed c.args.options c.in-Accepted.checked.graph.parts states verdict) accepted.kept found)) c.if_clean.ensures

@@ -1,5 +1,5 @@
 -- One edge more, and at the end all.
-use Rattle.std.proofs.Common.{inl, inr, ℕ, List, Contains, length, get_or, take, sym, ap, ◌∙◌, subst}
+use Rattle.std.proofs.Common.{inl, inr, ℕ, List, Contains, length, get_or, take, sym, ◌∙◌, subst}
 use Rattle.std.proofs.lemmas.List.{take_all, take_more}
 use Rattle.std.proofs.lemmas.List.Elements.{Contains-push_cases, Contains-get_or}
 use Rattle.machine_defs.specs.declared.flow.Edge.{Edge}
@@ -25,12 +25,12 @@ loop-edge-preserved c =
       goes_on = goes_further points c.args.search.now c.loop-edge.search c.follow_along.new.search i.goes_on goes;
       search = λ p allowed t s.
           let before = i.search p allowed t s in
-          step.search p allowed t.allows (sym (ap (λ x. x.op) (c.insn-op.ensures p t.tells)))
+          step.search p allowed t.allows (sym (c.op-op.ensures p t.tells))
           (subst (λ (es : List Edge). Contains es e) (c.successors-edge-items.ensures.edges p t.tells) (Contains-get_or edges k (edge 0 Next) c.loop-edge-test.true))
           (before.waiting v (here v c.loop-edge.search.pending.items)) before;
       followed = λ p allowed t x d. elim (Contains-push_cases (take k edges) e x (subst (λ (es : List Edge). Contains es x) (take_more edges k (edge 0 Next) c.loop-edge-test.true) d)) [
         | inl old ↦ λ stays runs. goes.found (along p v x) (i.followed p allowed t x old stays runs)
-        | inr same ↦ subst (λ (y : Edge). IsFollowedAlong p allowed c.follow_along.new.search.ways.items v y) same (step.followed p allowed t.allows (sym (ap (λ x. x.op) (c.insn-op.ensures p t.tells))))
+        | inr same ↦ subst (λ (y : Edge). IsFollowedAlong p allowed c.follow_along.new.search.ways.items v y) same (step.followed p allowed t.allows (sym (c.op-op.ensures p t.tells)))
       ];
     }
 
