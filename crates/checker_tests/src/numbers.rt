@@ -1,16 +1,17 @@
 //! States that are numbered by hand.
 
-use state_defs::{BpHome, Depth, EndKind, State};
+use state_defs::{BpHome, Depth, EndKind, SpCopy, State};
 use state_pool::{Pool, StateNo};
 use std::test::Fail;
 
 /// States, each with the number that it gets in this order.
-const NUMBERED: [(State, u32); 7] = [
+const NUMBERED: [(State, u32); 8] = [
     (
         State::Live {
             depth: Depth::Known(8),
             fp: None,
             bp: BpHome::Same,
+            copy: None,
         },
         0,
     ),
@@ -19,6 +20,7 @@ const NUMBERED: [(State, u32); 7] = [
             depth: Depth::AtLeast(8),
             fp: None,
             bp: BpHome::Same,
+            copy: None,
         },
         1,
     ),
@@ -27,6 +29,7 @@ const NUMBERED: [(State, u32); 7] = [
             depth: Depth::Known(8),
             fp: None,
             bp: BpHome::Same,
+            copy: None,
         },
         0,
     ),
@@ -37,10 +40,23 @@ const NUMBERED: [(State, u32); 7] = [
             depth: Depth::AtLeast(8),
             fp: None,
             bp: BpHome::Same,
+            copy: None,
         },
         1,
     ),
     (State::Ended(EndKind::Undefined), 2),
+    (
+        State::Live {
+            depth: Depth::Known(8),
+            fp: None,
+            bp: BpHome::Same,
+            copy: Some(SpCopy {
+                reg: 3,
+                depth: Depth::Known(8),
+            }),
+        },
+        4,
+    ),
 ];
 
 /// Each different state takes one of five numbers, and a known one none.
@@ -54,6 +70,6 @@ fn states_are_numbered_in_their_order(rt: HostRuntime) -> Result<(), Fail> {
             assert!(rt; pool.state(no) == state);
         }
     }
-    assert!(rt; (pool.len(), pool.spare()) == (4, 1));
+    assert!(rt; (pool.len(), pool.spare()) == (5, 0));
     Ok(())
 }

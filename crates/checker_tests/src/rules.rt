@@ -1,15 +1,17 @@
 //! The rules and rows of states, by hand.
 
+use operation_defs::DrapRegister;
 use stack_rules::{
     call_rule, depth_number, fit_rule, iret_rule, return_rule, same_row, sibling_rule, switch_rule,
 };
-use state_defs::{BpHome, Depth, EndKind, State};
+use state_defs::{BpHome, Depth, EndKind, Phase, SpCopy, State};
 
 /// At a function's entry.
 const ENTRY: State = State::Live {
     depth: Depth::Known(8),
     fp: None,
     bp: BpHome::Same,
+    copy: None,
 };
 
 /// After push %rbp; mov %rsp,%rbp.
@@ -17,6 +19,7 @@ const FRAMED: State = State::Live {
     depth: Depth::Known(16),
     fp: Some(16),
     bp: BpHome::Saved(16),
+    copy: None,
 };
 
 /// After and $-64,%rsp besides.
@@ -24,6 +27,7 @@ const ALIGNED: State = State::Live {
     depth: Depth::AtLeast(16),
     fp: Some(16),
     bp: BpHome::Saved(16),
+    copy: None,
 };
 
 /// After sub $32768,%rsp at the entry.
@@ -31,6 +35,7 @@ const DEEP: State = State::Live {
     depth: Depth::Known(32776),
     fp: None,
     bp: BpHome::Same,
+    copy: None,
 };
 
 const UNDEFINED: State = State::Ended(EndKind::Undefined);
@@ -40,20 +45,73 @@ const END: State = State::Ended(EndKind::EndOfStack);
 const PT_REGS: State = State::Regs {
     full: true,
     depth: 0,
+    trap: false,
 };
 
 const IRET_FRAME: State = State::Regs {
     full: false,
     depth: 0,
+    trap: false,
 };
 
 const PUSHED: State = State::Regs {
     full: false,
     depth: 8,
+    trap: false,
+};
+
+/// As `IRET_FRAME`, of a breakpoint.
+const TRAP_FRAME: State = State::Regs {
+    full: false,
+    depth: 0,
+    trap: true,
+};
+
+/// After mov %rsp,%rbx at the entry, where rbx is held.
+const COPIED: State = State::Live {
+    depth: Depth::Known(8),
+    fp: None,
+    bp: BpHome::Same,
+    copy: Some(SpCopy {
+        reg: 3,
+        depth: Depth::Known(8),
+    }),
+};
+
+/// After mov %rsp,(%r11) at the entry, in front of mov %r11,%rsp.
+const POISED: State = State::Poised {
+    depth: Depth::Known(8),
+    fp: None,
+    bp: BpHome::Same,
+};
+
+/// Behind both.
+const SWITCHED: State = State::Switched {
+    depth: 8,
+    bp: BpHome::Same,
+    fp: None,
+};
+
+/// After lea 8(%rsp),%r10; and $-16,%rsp.
+const BARE: State = State::Drap {
+    reg: DrapRegister::R10,
+    phase: Phase::Bare { depth: 8 },
+};
+
+/// After push -8(%r10); push %rbp besides.
+const SAVED: State = State::Drap {
+    reg: DrapRegister::R10,
+    phase: Phase::Pushed { size: 0 },
+};
+
+/// After mov %rsp,%rbp; push %r10 besides.
+const HOMED: State = State::Drap {
+    reg: DrapRegister::R10,
+    phase: Phase::Homed { size: 8, home: 8 },
 };
 
 /// Each state with the rules that it breaks at a return, a sibling call, a switch, an iret, a call, and anywhere.
-const RULES: [(State, [Option<u8>; 6]); 9] = [
+const RULES: [(State, [Option<u8>; 6]); 15] = [
     (ENTRY, [None, None, Some(15), Some(15), Some(21), None]),
     (FRAMED, [Some(5), Some(6), Some(15), Some(15), None, None]),
     (ALIGNED, [Some(5), Some(6), Some(15), Some(15), None, None]),
@@ -69,6 +127,21 @@ const RULES: [(State, [Option<u8>; 6]); 9] = [
     ),
     (IRET_FRAME, [Some(15), Some(15), Some(15), None, None, None]),
     (PUSHED, [Some(15), Some(15), Some(15), Some(15), None, None]),
+    (TRAP_FRAME, [Some(15), Some(15), Some(15), None, None, None]),
+    (COPIED, [None, None, Some(15), Some(15), Some(21), None]),
+    (
+        POISED,
+        [Some(5), Some(6), Some(15), Some(15), Some(21), None],
+    ),
+    (
+        SWITCHED,
+        [Some(5), Some(6), Some(15), Some(15), Some(21), None],
+    ),
+    (BARE, [Some(5), Some(6), Some(15), Some(15), Some(21), None]),
+    (
+        HOMED,
+        [Some(5), Some(6), Some(15), Some(15), Some(21), None],
+    ),
 ];
 
 #[test]
@@ -87,12 +160,18 @@ fn states_break_their_rules(rt: HostRuntime) {
 }
 
 /// Pairs of states, and whether they have one row.
-const ROWS: [(State, State, bool); 5] = [
+const ROWS: [(State, State, bool); 11] = [
     (FRAMED, ALIGNED, true),
     (ENTRY, FRAMED, false),
     (ENTRY, DEEP, false),
     (UNDEFINED, END, false),
     (PT_REGS, IRET_FRAME, false),
+    (IRET_FRAME, TRAP_FRAME, false),
+    (ENTRY, COPIED, true),
+    (ENTRY, POISED, true),
+    (POISED, SWITCHED, false),
+    (BARE, SAVED, true),
+    (SAVED, HOMED, false),
 ];
 
 #[test]
@@ -108,4 +187,7 @@ fn depths_are_told(rt: HostRuntime) {
     assert!(rt; depth_number(ALIGNED) == -16);
     assert!(rt; depth_number(PUSHED) == 8);
     assert!(rt; depth_number(END) == 0);
+    assert!(rt; depth_number(SWITCHED) == 8);
+    assert!(rt; depth_number(BARE) == -8);
+    assert!(rt; depth_number(HOMED) == 8);
 }
