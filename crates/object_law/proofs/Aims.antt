@@ -136,7 +136,7 @@ module _ (o : Coded) (point : Point) (named : IsNamed o (address_of o point).sec
       go false true = subst (λ sec. IsNamed o sec) (replaced_sec o point replaced) named
       go false false = tt
 
-  module _ (len : ℕ) where
+  module _ (len writes : ℕ) where
     by_displacement : (d : Displacement) (t : Target) → (IsNamed o point.place.sec ⊎ (lacks_reloc o.elf point.place len d ≡ false) → TargetIsNamed o t)
         → DestinationIsNamed o point (cond (not (is_plain point) && lacks_reloc o.elf point.place len d) (own_destination o point (relative_place point.place len d)) (named_destination t))
     by_displacement d t goes = by_plain (is_plain point) refl
@@ -149,12 +149,12 @@ module _ (o : Coded) (point : Point) (named : IsNamed o (address_of o point).sec
         by_plain true e = target_named o point t (goes (inl (subst (λ (p : Place). IsNamed o p.sec) (address_plain o point (eqb-true point.variant 0 e)) named)))
         by_plain false e = by_reloc (lacks_reloc o.elf point.place len d) refl e
 
-    by_op : (op : Op) → DestinationIsNamed o point (destination_by o point (record { len = len; op = op }) (displacement_of op))
-    by_op (ops.Call rel) = by_displacement (record { bytes = 4; value = rel }) (branch_target o.elf point.place (record { len = len; op = ops.Call rel })) (λ may. wide_named o point.place len rel (reloc_at o.elf (last_bytes point.place len 4)) may)
-    by_op (ops.Jmp rel wide) = by_displacement (jump_displacement rel wide) (branch_target o.elf point.place (record { len = len; op = ops.Jmp rel wide })) (λ may. jump_named o point.place len rel wide may)
-    by_op (ops.Jcc rel wide) = by_displacement (jump_displacement rel wide) (branch_target o.elf point.place (record { len = len; op = ops.Jcc rel wide })) (λ may. jump_named o point.place len rel wide may)
+    by_op : (op : Op) → DestinationIsNamed o point (destination_by o point (record { len = len; op = op; writes = writes }) (displacement_of op))
+    by_op (ops.Call rel) = by_displacement (record { bytes = 4; value = rel }) (branch_target o.elf point.place (record { len = len; op = ops.Call rel; writes = writes })) (λ may. wide_named o point.place len rel (reloc_at o.elf (last_bytes point.place len 4)) may)
+    by_op (ops.Jmp rel wide) = by_displacement (jump_displacement rel wide) (branch_target o.elf point.place (record { len = len; op = ops.Jmp rel wide; writes = writes })) (λ may. jump_named o point.place len rel wide may)
+    by_op (ops.Jcc rel wide) = by_displacement (jump_displacement rel wide) (branch_target o.elf point.place (record { len = len; op = ops.Jcc rel wide; writes = writes })) (λ may. jump_named o point.place len rel wide may)
     by_op _ = tt
 
   pub destination_named : (insn : Insn) → DestinationIsNamed o point (destination o point insn)
   unfolding destination
-  destination_named insn = by_op insn.len insn.op
+  destination_named insn = by_op insn.len insn.writes insn.op

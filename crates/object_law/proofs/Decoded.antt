@@ -93,7 +93,6 @@ module _ (P : Op → Type 0) (of_decoded : (map : Map) (bytes : List ℕ) (insn 
       go None is = of_plain
       go (Some insn) is = point_has (texts_of o) (alternatives_of o) point insn are is
 
-
 -- so do those that a program makes of them
 either_fits : (b : Bool) (one other : Op) → HasSignedNumber one → HasSignedNumber other → HasSignedNumber (cond b one other)
 either_fits true one other h k = h

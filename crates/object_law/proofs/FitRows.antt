@@ -6,11 +6,17 @@ use Rattle.std.proofs.lemmas.Int.{ints}
 use Rattle.ot_base.specs.declared.place.Place.{Place}
 use Rattle.ot_base.specs.declared.row.Row.{Row}
 use Rattle.ot_base.specs.Places.{same_place}
+use Rattle.ot_base.specs.declared.codes.TheConstants.{REG_SP_INDIRECT}
+use Rattle.operation_defs.specs.declared.op.DrapRegister.{DrapRegister}
+use Rattle.operation_defs.specs.declared.op.DrapRegister.TheVariants.{R10, R13}
+use Rattle.state_defs.specs.declared.state.BpHome.{BpHome}
 use Rattle.state_defs.specs.declared.state.BpHome.TheVariants.{Same, Saved}
+use Rattle.state_defs.specs.declared.state.Phase.{Phase}
+use Rattle.state_defs.specs.declared.state.Phase.TheVariants.{Bare, Pushed, Framed, Homed}
 use Rattle.state_defs.specs.declared.state.EndKind.TheVariants.{Undefined, EndOfStack}
 use Rattle.state_defs.specs.declared.state.State.{State}
-use Rattle.state_defs.specs.declared.state.State.TheVariants.{Live, Ended, Regs}
-use Rattle.state_defs.specs.Row.{has_16_bits, row_of, unfit_offset, zero_row}
+use Rattle.state_defs.specs.declared.state.State.TheVariants.{Live, Ended, Regs, Poised, Switched, Drap}
+use Rattle.state_defs.specs.Row.{bp_reg_of, drap_reg, drap_row, has_16_bits, row_of, sp_reg_of, unfit_offset, zero_row}
 use Rattle.machine_defs.specs.Program.{Program, Site}
 use Rattle.machine_defs.specs.Broken.{IsAccepted, unfit}
 use Rattle.machine_defs.specs.Kept.{AreKeptStates, Kept}
@@ -30,15 +36,33 @@ short_fits (negsuc k) e = let low : k ≤ 32767 = leb-true k 32767 (first (nat_l
     first false b e = e
 
 -- the registers and the kind of a state's row are known
+sp_known : (fp : Option ℤ) → sp_reg_of fp ≤ REG_SP_INDIRECT
+sp_known None = omega arith
+sp_known (Some m) = omega arith
+
+bp_known : (bp : BpHome) → bp_reg_of bp ≤ REG_SP_INDIRECT
+bp_known Same = omega arith
+bp_known (Saved at) = omega arith
+
+top_known : (reg : DrapRegister) → drap_reg reg ≤ REG_SP_INDIRECT
+top_known R10 = omega arith
+top_known R13 = omega arith
+
+aligned_fields : (reg : DrapRegister) (phase : Phase) → HasKnownFields (drap_row reg phase)
+aligned_fields reg (Bare depth) = record { sp_reg = top_known reg; bp_reg = omega arith; kind = omega arith }
+aligned_fields reg (Pushed size) = record { sp_reg = top_known reg; bp_reg = omega arith; kind = omega arith }
+aligned_fields reg (Framed size) = record { sp_reg = top_known reg; bp_reg = omega arith; kind = omega arith }
+aligned_fields reg (Homed size home) = record { sp_reg = omega arith; bp_reg = omega arith; kind = omega arith }
+
 known_fields : (s : State) → HasKnownFields (row_of s)
-known_fields (Live depth None Same) = record { sp_reg = omega arith; bp_reg = omega arith; kind = omega arith }
-known_fields (Live depth None (Saved at)) = record { sp_reg = omega arith; bp_reg = omega arith; kind = omega arith }
-known_fields (Live depth (Some base) Same) = record { sp_reg = omega arith; bp_reg = omega arith; kind = omega arith }
-known_fields (Live depth (Some base) (Saved at)) = record { sp_reg = omega arith; bp_reg = omega arith; kind = omega arith }
+known_fields (Live depth fp bp copy) = record { sp_reg = sp_known fp; bp_reg = bp_known bp; kind = omega arith }
 known_fields (Ended Undefined) = record { sp_reg = omega arith; bp_reg = omega arith; kind = omega arith }
 known_fields (Ended EndOfStack) = record { sp_reg = omega arith; bp_reg = omega arith; kind = omega arith }
-known_fields (Regs true depth) = record { sp_reg = omega arith; bp_reg = omega arith; kind = omega arith }
-known_fields (Regs false depth) = record { sp_reg = omega arith; bp_reg = omega arith; kind = omega arith }
+known_fields (Regs true depth trap) = record { sp_reg = omega arith; bp_reg = omega arith; kind = omega arith }
+known_fields (Regs false depth trap) = record { sp_reg = omega arith; bp_reg = omega arith; kind = omega arith }
+known_fields (Poised depth fp bp) = record { sp_reg = sp_known fp; bp_reg = bp_known bp; kind = omega arith }
+known_fields (Switched depth bp fp) = record { sp_reg = omega arith; bp_reg = bp_known bp; kind = omega arith }
+known_fields (Drap reg phase) = aligned_fields reg phase
 
 state_fits : (s : State) → unfit_offset s ≡ None → IsRow (row_of s)
 state_fits s none =

@@ -24,7 +24,7 @@ use Rattle.unwinding_law.proofs.Lists.{from_filter, in_map}
 use Rattle.flow_defs.specs.Code.{alternatives_of, body_of, point_at, points_of_object, text_numbers}
 use Rattle.flow_defs.specs.Arrival.{decoded_insn}
 use Rattle.flow_defs.specs.Switching.{insn_by}
-use Rattle.flow_defs.specs.Program.{graph_of, program_of, returning_graph, text_sections_of, uncopied_program}
+use Rattle.flow_defs.specs.Program.{graph_of, returning_graph, text_sections_of, uncopied_program}
 use Rattle.object_law.specs.Flows.{ObjectIsInOrder}
 use Rattle.object_law.proofs.Bodies.{at_lies, cut_within}
 use Rattle.object_law.proofs.EntryFacts.{entry_is}

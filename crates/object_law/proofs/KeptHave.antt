@@ -1,11 +1,11 @@
 -- What holds of all kept points: what holds where states begin, and passes along edges and from a SAVE to its RESTOREs.
 use Rattle.std.proofs.Common.{◌≡◌, ℕ, zero, suc, Bool, true, false, if◌then◌else◌, Option, Some, None, Contains, refl, subst}
-use Rattle.std.specs.Prelude.{option_and_then}
+use Rattle.std.specs.Prelude.{option_and_then, option_map}
 use Rattle.machine_defs.specs.declared.flow.Edge.{Edge}
 use Rattle.state_defs.specs.declared.state.HintState.{HintState}
 use Rattle.state_defs.specs.declared.state.HintState.TheVariants.{Set, Save, Restore}
 use Rattle.state_defs.specs.declared.state.State.{State}
-use Rattle.state_defs.specs.State.{initial}
+use Rattle.state_defs.specs.State.{held_by, initial}
 use Rattle.state_defs.specs.Order.{least}
 use Rattle.machine_defs.specs.Program.{Program, below}
 use Rattle.machine_defs.specs.Kept.{Kept, brought, brought_from, can_go, first_state, is_at_entry, kept_or, later_state, state_at}
@@ -44,14 +44,18 @@ module _ (p : Program) (P : ℕ → Type 0) (on : IsHandedOn p P) where
         one a None is c = nowhere s c
         one a (Some t) is c =
             let r = brings_edge p a q t s c in
-            subst P r.2 (on.along a r.0 (from_filter (λ (e : Edge). can_go p a e.kind) (p.goes a) r.0 r.1).0 (before a t is))
+            subst P r.to (on.along a r.edge (from_filter (λ (e : Edge). can_go p a e.kind) (p.goes a) r.edge r.among).0 (before a t is))
 
         from : (a : ℕ) × Contains (below p.count) a × Contains (brought_from p a (states a) q) s → P q
         from r = one r.0 (states r.0) refl r.2
 
-    restored_has : (q : ℕ) (s : State) (save : Option ℕ) → p.save_of q ≡ save → option_and_then states save ≡ Some s → P q
+    restored_has : (q : ℕ) (s : State) (save : Option ℕ) → p.save_of q ≡ save → option_map (held_by (p.held q)) (option_and_then states save) ≡ Some s → P q
     restored_has q s None is e = absurd (let z : ⊥ = cc in z)
-    restored_has q s (Some save) is e = on.saved q save is (before save s e)
+    restored_has q s (Some save) is e = of_save (states save) refl e
+      where
+        of_save : (saved : Option State) → states save ≡ saved → option_map (held_by (p.held q)) saved ≡ Some s → P q
+        of_save None known e = absurd (let z : ⊥ = cc in z)
+        of_save (Some t) known e = on.saved q save is (before save t known)
 
     later_has : (q : ℕ) (s : State) (hint : Option HintState) → later_state p states q hint ≡ Some s → P q
     later_has q s (Some (Set t)) e = absurd (let z : ⊥ = cc in z)

@@ -6,7 +6,7 @@ use Rattle.ot_base.specs.declared.place.Place.{Place}
 use Rattle.ot_base.specs.NameLists.{NameLists}
 use Rattle.elf_objects.specs.Below.{least_below}
 use Rattle.elf_objects.specs.Number.{half}
-use Rattle.flow_defs.specs.Arrival.{after, around, arrive, decoded_insn, hint_of, insn_of_object, is_at_end, is_dead_end, makes_room, own_hint_of}
+use Rattle.flow_defs.specs.Arrival.{after, around, arrive, decoded_insn, hint_of, insn_of_object, is_at_end, is_dead_end, own_hint_of}
 use Rattle.flow_defs.specs.Code.{points_of_object, texts_of}
 use Rattle.flow_defs.specs.Edges.{goes, goes_on}
 use Rattle.flow_defs.specs.Hints.{save_of}
@@ -22,7 +22,9 @@ use Rattle.flow_defs.specs.Sites.{site_holding, sites_of}
 use Rattle.flow_defs.specs.Targets.{destination}
 use Rattle.flow_defs.specs.Ways.{branch_way}
 use Rattle.special_sections.specs.Nested.{nested}
+use Rattle.machine_defs.specs.Copies.{insn_with_copies, is_stale, is_wanted, owner_makes_room}
 use Rattle.x86_decode.specs.Action.{action_of}
+use Rattle.x86_decode.specs.Fields.{named_written, registers_written}
 use Rattle.x86_decode.specs.Decoding.{decoded}
 use Rattle.x86_decode.specs.Operation.{address_loaded, arithmetic, group_5, group_7, jump_table, loaded, operation, operation_by, pop_operand, push_operand, stored, subtracted_by, subtracted_from}
 use Rattle.x86_decode.specs.Reading.{finished, modrm_at, modrm_fits, opcode_at, operands_at, operands_by, prefixes_at, reading, rest_at, rex_at, sib_at, map_at, opcode_in, two_byte_at, two_byte_in}
@@ -34,15 +36,15 @@ use Rattle.operation_defs.specs.declared.op.Op.{Op}
 use Rattle.operation_defs.specs.declared.op.Op.TheVariants.{RetImm, Switch, Iret}
 use Rattle.machine_defs.specs.declared.flow.Edge.{Edge}
 use Rattle.machine_defs.specs.declared.flow.EdgeKind.{EdgeKind}
-use Rattle.machine_defs.specs.declared.flow.EdgeKind.TheVariants.{Next, Sibling}
+use Rattle.machine_defs.specs.declared.flow.EdgeKind.TheVariants.{Next, Fixup, Sibling}
 use Rattle.machine_defs.specs.declared.flow.Role.{Role}
 use Rattle.machine_defs.specs.declared.flow.Role.TheVariants.{Return, JumpOut, JumpAny}
 use Rattle.state_defs.specs.declared.state.State.{State}
 use Rattle.state_defs.specs.declared.state.HintState.{HintState}
-use Rattle.state_defs.specs.State.{initial}
+use Rattle.state_defs.specs.State.{held_by, initial}
 use Rattle.state_defs.specs.Move.{move}
 use Rattle.state_defs.specs.Row.{unfit_offset}
-use Rattle.state_defs.specs.Rules.{return_rule}
+use Rattle.state_defs.specs.Rules.{is_poised, may_call, return_rule}
 use Rattle.machine_defs.specs.Program.{Program, Site, IsPoint, below, edge}
 use Rattle.machine_defs.specs.Kept.{moved_at, loosened, can_go, brought_along, Brings, brought_from, brought, edges_of, is_at_entry, first_state, later_state, kept_or, state_at, Kept, AreKeptStates, is_free}
 use Rattle.machine_defs.specs.Broken.{LeavesByJump, sibling, outside, anywhere, IsAccepted, Warns}
@@ -76,7 +78,7 @@ module _ (lists : NameLists) (names : NamesNeither lists) where
   p = program_of worked lists
 
   firm : (q : ℕ) → IfSome (states q) (λ s. p.loose q ≡ false)
-  unfolding action_of address_loaded after around destination arithmetic arrive branch_way calls_into_function code_of decoded decoded_insn entries_of finished added_forms base_forms goes goes_on graph_of group_5 group_7 half has_bad_target has_target_in_site hint_of insn_of_object is_at_end is_dead_end is_entry is_unchecked_owner jump_table least_below loaded look look_form makes_room modrm_at modrm_fits nested never_returns_by opcode_at operands_at operands_by operation operation_by points_of_object pop_operand prefixes_at previous_of program_of uncopied_program push_operand reading rest_at returning_graph returns_at_last rex_at role_of save_of sib_at site_holding sites_of stored subtracted_by subtracted_from table_of_point text_sections_of texts_of map_at opcode_in two_byte_at two_byte_in unchecked_start unsized_of own_hint_of returns_through returning_at insn_by is_linked is_uncovered is_in_named_code
+  unfolding action_of address_loaded after around destination arithmetic arrive branch_way calls_into_function code_of decoded decoded_insn entries_of finished added_forms base_forms goes goes_on graph_of group_5 group_7 half has_bad_target has_target_in_site hint_of insn_of_object is_at_end is_dead_end is_entry is_unchecked_owner jump_table least_below loaded look look_form modrm_at modrm_fits nested never_returns_by opcode_at operands_at operands_by operation operation_by points_of_object pop_operand prefixes_at previous_of program_of uncopied_program push_operand named_written registers_written insn_with_copies is_stale is_wanted owner_makes_room reading rest_at returning_graph returns_at_last rex_at role_of save_of sib_at site_holding sites_of stored subtracted_by subtracted_from table_of_point text_sections_of texts_of map_at opcode_in two_byte_at two_byte_in unchecked_start unsized_of own_hint_of returns_through returning_at insn_by is_linked is_uncovered is_in_named_code
   firm = each (λ q. IfSome (states q) (λ s. p.loose q ≡ false)) (is (names.firm)) (is names.firm) (is names.firm) (is names.firm) (λ q. tt)
     where
       is : {c : Bool} → c ≡ false → ((c && true) || false) ≡ false
@@ -94,22 +96,23 @@ module _ (lists : NameLists) (names : NamesNeither lists) where
     returns : p.role q ≡ Return → return_rule s ≡ None
     stays : is_no_jump (p.role q) ≡ true
     inside : is_op_inside (p.insn q).op ≡ true
+    calls : may_call s ≡ true
 
   fine : (q : ℕ) → IfSome (states q) (IsFine q)
-  unfolding action_of address_loaded after around destination arithmetic arrive branch_way calls_into_function code_of decoded decoded_insn entries_of finished added_forms base_forms goes goes_on graph_of group_5 group_7 half has_bad_target has_target_in_site hint_of insn_of_object is_at_end is_dead_end is_entry is_unchecked_owner jump_table least_below loaded look look_form makes_room modrm_at modrm_fits nested never_returns_by opcode_at operands_at operands_by operation operation_by points_of_object pop_operand prefixes_at previous_of program_of uncopied_program push_operand reading rest_at returning_graph returns_at_last rex_at role_of save_of sib_at site_holding sites_of stored subtracted_by subtracted_from table_of_point text_sections_of texts_of map_at opcode_in two_byte_at two_byte_in unchecked_start unsized_of own_hint_of returns_through returning_at insn_by is_linked is_uncovered is_in_named_code
+  unfolding action_of address_loaded after around destination arithmetic arrive branch_way calls_into_function code_of decoded decoded_insn entries_of finished added_forms base_forms goes goes_on graph_of group_5 group_7 half has_bad_target has_target_in_site hint_of insn_of_object is_at_end is_dead_end is_entry is_unchecked_owner jump_table least_below loaded look look_form modrm_at modrm_fits nested never_returns_by opcode_at operands_at operands_by operation operation_by points_of_object pop_operand prefixes_at previous_of program_of uncopied_program push_operand named_written registers_written insn_with_copies is_stale is_wanted owner_makes_room reading rest_at returning_graph returns_at_last rex_at role_of save_of sib_at site_holding sites_of stored subtracted_by subtracted_from table_of_point text_sections_of texts_of map_at opcode_in two_byte_at two_byte_in unchecked_start unsized_of own_hint_of returns_through returning_at insn_by is_linked is_uncovered is_in_named_code
   fine = each (λ q. IfSome (states q) (IsFine q))
-      (record { bad = refl; past_end = refl; into_site = refl; into_function = refl; relocated = refl; moves = (pushed, refl); fits = refl; returns = λ e. cc; stays = refl; inside = refl })
-      (record { bad = refl; past_end = refl; into_site = refl; into_function = refl; relocated = refl; moves = (pushed, refl); fits = refl; returns = λ e. cc; stays = refl; inside = refl })
-      (record { bad = refl; past_end = refl; into_site = refl; into_function = refl; relocated = refl; moves = (initial, refl); fits = refl; returns = λ e. cc; stays = refl; inside = refl })
-      (record { bad = refl; past_end = refl; into_site = refl; into_function = refl; relocated = refl; moves = (initial, refl); fits = refl; returns = λ e. refl; stays = refl; inside = refl })
+      (record { bad = refl; past_end = refl; into_site = refl; into_function = refl; relocated = refl; moves = (pushed, refl); fits = refl; returns = λ e. cc; stays = refl; inside = refl; calls = refl })
+      (record { bad = refl; past_end = refl; into_site = refl; into_function = refl; relocated = refl; moves = (pushed, refl); fits = refl; returns = λ e. cc; stays = refl; inside = refl; calls = refl })
+      (record { bad = refl; past_end = refl; into_site = refl; into_function = refl; relocated = refl; moves = (initial, refl); fits = refl; returns = λ e. cc; stays = refl; inside = refl; calls = refl })
+      (record { bad = refl; past_end = refl; into_site = refl; into_function = refl; relocated = refl; moves = (initial, refl); fits = refl; returns = λ e. refl; stays = refl; inside = refl; calls = refl })
       (λ q. tt)
 
   no_hint : (q : ℕ) → p.hint q ≡ None
-  unfolding action_of address_loaded after around destination arithmetic arrive branch_way calls_into_function code_of decoded decoded_insn entries_of finished added_forms base_forms goes goes_on graph_of group_5 group_7 half has_bad_target has_target_in_site hint_of insn_of_object is_at_end is_dead_end is_entry is_unchecked_owner jump_table least_below loaded look look_form makes_room modrm_at modrm_fits nested never_returns_by opcode_at operands_at operands_by operation operation_by points_of_object pop_operand prefixes_at previous_of program_of uncopied_program push_operand reading rest_at returning_graph returns_at_last rex_at role_of save_of sib_at site_holding sites_of stored subtracted_by subtracted_from table_of_point text_sections_of texts_of map_at opcode_in two_byte_at two_byte_in unchecked_start unsized_of own_hint_of returns_through returning_at insn_by is_linked is_uncovered is_in_named_code
+  unfolding action_of address_loaded after around destination arithmetic arrive branch_way calls_into_function code_of decoded decoded_insn entries_of finished added_forms base_forms goes goes_on graph_of group_5 group_7 half has_bad_target has_target_in_site hint_of insn_of_object is_at_end is_dead_end is_entry is_unchecked_owner jump_table least_below loaded look look_form modrm_at modrm_fits nested never_returns_by opcode_at operands_at operands_by operation operation_by points_of_object pop_operand prefixes_at previous_of program_of uncopied_program push_operand named_written registers_written insn_with_copies is_stale is_wanted owner_makes_room reading rest_at returning_graph returns_at_last rex_at role_of save_of sib_at site_holding sites_of stored subtracted_by subtracted_from table_of_point text_sections_of texts_of map_at opcode_in two_byte_at two_byte_in unchecked_start unsized_of own_hint_of returns_through returning_at insn_by is_linked is_uncovered is_in_named_code
   no_hint = each (λ q. p.hint q ≡ None) refl refl refl refl (λ q. refl)
 
   checked : (q : ℕ) → p.unchecked q ≡ false
-  unfolding action_of address_loaded after around destination arithmetic arrive branch_way calls_into_function code_of decoded decoded_insn entries_of finished added_forms base_forms goes goes_on graph_of group_5 group_7 half has_bad_target has_target_in_site hint_of insn_of_object is_at_end is_dead_end is_entry is_unchecked_owner jump_table least_below loaded look look_form makes_room modrm_at modrm_fits nested never_returns_by opcode_at operands_at operands_by operation operation_by points_of_object pop_operand prefixes_at previous_of program_of uncopied_program push_operand reading rest_at returning_graph returns_at_last rex_at role_of save_of sib_at site_holding sites_of stored subtracted_by subtracted_from table_of_point text_sections_of texts_of map_at opcode_in two_byte_at two_byte_in unchecked_start unsized_of own_hint_of returns_through returning_at insn_by is_linked is_uncovered is_in_named_code
+  unfolding action_of address_loaded after around destination arithmetic arrive branch_way calls_into_function code_of decoded decoded_insn entries_of finished added_forms base_forms goes goes_on graph_of group_5 group_7 half has_bad_target has_target_in_site hint_of insn_of_object is_at_end is_dead_end is_entry is_unchecked_owner jump_table least_below loaded look look_form modrm_at modrm_fits nested never_returns_by opcode_at operands_at operands_by operation operation_by points_of_object pop_operand prefixes_at previous_of program_of uncopied_program push_operand named_written registers_written insn_with_copies is_stale is_wanted owner_makes_room reading rest_at returning_graph returns_at_last rex_at role_of save_of sib_at site_holding sites_of stored subtracted_by subtracted_from table_of_point text_sections_of texts_of map_at opcode_in two_byte_at two_byte_in unchecked_start unsized_of own_hint_of returns_through returning_at insn_by is_linked is_uncovered is_in_named_code
   checked = each (λ q. p.unchecked q ≡ false) refl refl refl refl (λ q. refl)
 
   -- an edge goes on to the next point, with the state there
@@ -120,7 +123,7 @@ module _ (lists : NameLists) (names : NamesNeither lists) where
     known : states e.to ≡ None → ⊥
 
   right : (a : ℕ) → All (IsRight a) (p.goes a)
-  unfolding action_of address_loaded after around destination arithmetic arrive branch_way calls_into_function code_of decoded decoded_insn entries_of finished added_forms base_forms goes goes_on graph_of group_5 group_7 half has_bad_target has_target_in_site hint_of insn_of_object is_at_end is_dead_end is_entry is_unchecked_owner jump_table least_below loaded look look_form makes_room modrm_at modrm_fits nested never_returns_by opcode_at operands_at operands_by operation operation_by points_of_object pop_operand prefixes_at previous_of program_of uncopied_program push_operand reading rest_at returning_graph returns_at_last rex_at role_of save_of sib_at site_holding sites_of stored subtracted_by subtracted_from table_of_point text_sections_of texts_of map_at opcode_in two_byte_at two_byte_in unchecked_start unsized_of own_hint_of returns_through returning_at insn_by is_linked is_uncovered is_in_named_code
+  unfolding action_of address_loaded after around destination arithmetic arrive branch_way calls_into_function code_of decoded decoded_insn entries_of finished added_forms base_forms goes goes_on graph_of group_5 group_7 half has_bad_target has_target_in_site hint_of insn_of_object is_at_end is_dead_end is_entry is_unchecked_owner jump_table least_below loaded look look_form modrm_at modrm_fits nested never_returns_by opcode_at operands_at operands_by operation operation_by points_of_object pop_operand prefixes_at previous_of program_of uncopied_program push_operand named_written registers_written insn_with_copies is_stale is_wanted owner_makes_room reading rest_at returning_graph returns_at_last rex_at role_of save_of sib_at site_holding sites_of stored subtracted_by subtracted_from table_of_point text_sections_of texts_of map_at opcode_in two_byte_at two_byte_in unchecked_start unsized_of own_hint_of returns_through returning_at insn_by is_linked is_uncovered is_in_named_code
   right = each (λ a. All (IsRight a) (p.goes a))
       (one (IsRight 0) (edge 1 Next) (record { next = refl; owner = refl; carries = refl; known = λ e. cc }))
       (one (IsRight 1) (edge 2 Next) (record { next = refl; owner = refl; carries = refl; known = λ e. cc }))
@@ -136,7 +139,7 @@ module _ (lists : NameLists) (names : NamesNeither lists) where
 
   -- a move that is made isn't that of loose code
   moved_as : (a : ℕ) (s t : State) → states a ≡ Some s → move s (p.insn a).op ≡ Ok t → moved_at p a s ≡ Ok t
-  moved_as a s t e m = subst (λ (b : Bool). loosened b (move s (p.insn a).op) ≡ Ok t) (sym (of_some (λ _. p.loose a ≡ false) a s e (firm a))) m
+  moved_as a s t e m = subst (λ (b : Bool). loosened (b && not (is_poised s)) (move s (p.insn a).op) ≡ Ok t) (sym (of_some (λ _. p.loose a ≡ false) a s e (firm a))) m
 
   -- what a state is brought as is the state there
   carried : (a to : ℕ) (s t : State) (o : Option State) → states a ≡ Some s → states to ≡ o → (states to ≡ None → ⊥) → IfSome o (λ u. move s (p.insn a).op ≡ Ok u) → Contains (brought_along s (moved_at p a s) Next) t → states to ≡ Some t
@@ -145,17 +148,25 @@ module _ (lists : NameLists) (names : NamesNeither lists) where
       let d : Contains (u ∷ []) t = subst (λ (r : Result State ℕ). Contains (brought_along s r Next) t) (moved_as a s u e m) c in
       elim (cases u [] t d) [ inl same ↦ known ∙ ap Some same | inr k ↦ nowhere t k ]
 
+  -- no state has a copy of rsp
+  uncopied : (q : ℕ) → IfSome (states q) (λ s. (held : ℕ → Bool) → held_by held s ≡ s)
+  uncopied = each (λ q. IfSome (states q) (λ s. (held : ℕ → Bool) → held_by held s ≡ s)) (λ held. refl) (λ held. refl) (λ held. refl) (λ held. refl) (λ q. tt)
+
+  held_state : (q : ℕ) (s : State) → states q ≡ Some s → states q ≡ Some (held_by (p.held q) s)
+  held_state q s e = e ∙ ap Some (sym (of_some (λ t. (held : ℕ → Bool) → held_by held t ≡ t) q s e (uncopied q) (p.held q)))
+
   brought_state : (a q : ℕ) (s t : State) → states a ≡ Some s → Brings p a s q t → states q ≡ Some t
   brought_state a q s t e brings =
       let r = brings_edge p a q s t brings in
-      let is = right_edge a r.0 r.1 in
-      let m = of_some (λ s. IfSome (states (r.0).to) (λ t. move s (p.insn a).op ≡ Ok t)) a s e is.carries in
-      let c = subst (λ (k : EdgeKind). Contains (brought_along s (moved_at p a s) k) t) is.next r.3 in
-      subst (λ (x : ℕ). states x ≡ Some t) r.2 (carried a (r.0).to s t (states (r.0).to) e refl is.known m c)
+      let is = right_edge a r.edge r.among in
+      let m = of_some (λ s. IfSome (states r.edge.to) (λ t. move s (p.insn a).op ≡ Ok t)) a s e is.carries in
+      let c = subst (λ (k : EdgeKind). Contains (brought_along s (moved_at p a s) k) r.moved) is.next r.along in
+      let there = subst (λ (x : ℕ). states x ≡ Some r.moved) r.to (carried a r.edge.to s r.moved (states r.edge.to) e refl is.known m c) in
+      held_state q r.moved there ∙ ap Some (sym r.held)
 
   -- at level 0
   at_start : (q : ℕ) → is_at_entry p q ≡ true → q ≡ 0
-  unfolding action_of address_loaded after around destination arithmetic arrive branch_way calls_into_function code_of decoded decoded_insn entries_of finished added_forms base_forms goes goes_on graph_of group_5 group_7 half has_bad_target has_target_in_site hint_of insn_of_object is_at_end is_dead_end is_entry is_unchecked_owner jump_table least_below loaded look look_form makes_room modrm_at modrm_fits nested never_returns_by opcode_at operands_at operands_by operation operation_by points_of_object pop_operand prefixes_at previous_of program_of uncopied_program push_operand reading rest_at returning_graph returns_at_last rex_at role_of save_of sib_at site_holding sites_of stored subtracted_by subtracted_from table_of_point text_sections_of texts_of map_at opcode_in two_byte_at two_byte_in unchecked_start unsized_of own_hint_of returns_through returning_at insn_by is_linked is_uncovered is_in_named_code
+  unfolding action_of address_loaded after around destination arithmetic arrive branch_way calls_into_function code_of decoded decoded_insn entries_of finished added_forms base_forms goes goes_on graph_of group_5 group_7 half has_bad_target has_target_in_site hint_of insn_of_object is_at_end is_dead_end is_entry is_unchecked_owner jump_table least_below loaded look look_form modrm_at modrm_fits nested never_returns_by opcode_at operands_at operands_by operation operation_by points_of_object pop_operand prefixes_at previous_of program_of uncopied_program push_operand named_written registers_written insn_with_copies is_stale is_wanted owner_makes_room reading rest_at returning_graph returns_at_last rex_at role_of save_of sib_at site_holding sites_of stored subtracted_by subtracted_from table_of_point text_sections_of texts_of map_at opcode_in two_byte_at two_byte_in unchecked_start unsized_of own_hint_of returns_through returning_at insn_by is_linked is_uncovered is_in_named_code
   at_start q e = go (0 == q) refl e
     where
       go : (b : Bool) → (0 == q) ≡ b → ((b || false) || false) ≡ true → q ≡ 0
@@ -212,11 +223,11 @@ module _ (lists : NameLists) (names : NamesNeither lists) where
   wrong b e f = let k : false ≡ true = sym e ∙ f in cc
 
   no_site : (site : Site) → Contains p.sites site → ⊥
-  unfolding action_of address_loaded after around destination arithmetic arrive branch_way calls_into_function code_of decoded decoded_insn entries_of finished added_forms base_forms goes goes_on graph_of group_5 group_7 half has_bad_target has_target_in_site hint_of insn_of_object is_at_end is_dead_end is_entry is_unchecked_owner jump_table least_below loaded look look_form makes_room modrm_at modrm_fits nested never_returns_by opcode_at operands_at operands_by operation operation_by points_of_object pop_operand prefixes_at previous_of program_of uncopied_program push_operand reading rest_at returning_graph returns_at_last rex_at role_of save_of sib_at site_holding sites_of stored subtracted_by subtracted_from table_of_point text_sections_of texts_of map_at opcode_in two_byte_at two_byte_in unchecked_start unsized_of own_hint_of returns_through returning_at insn_by is_linked is_uncovered is_in_named_code
+  unfolding action_of address_loaded after around destination arithmetic arrive branch_way calls_into_function code_of decoded decoded_insn entries_of finished added_forms base_forms goes goes_on graph_of group_5 group_7 half has_bad_target has_target_in_site hint_of insn_of_object is_at_end is_dead_end is_entry is_unchecked_owner jump_table least_below loaded look look_form modrm_at modrm_fits nested never_returns_by opcode_at operands_at operands_by operation operation_by points_of_object pop_operand prefixes_at previous_of program_of uncopied_program push_operand named_written registers_written insn_with_copies is_stale is_wanted owner_makes_room reading rest_at returning_graph returns_at_last rex_at role_of save_of sib_at site_holding sites_of stored subtracted_by subtracted_from table_of_point text_sections_of texts_of map_at opcode_in two_byte_at two_byte_in unchecked_start unsized_of own_hint_of returns_through returning_at insn_by is_linked is_uncovered is_in_named_code
   no_site site c = nowhere site c
 
   no_unsized : (place : Place) → Contains p.unsized place → ⊥
-  unfolding action_of address_loaded after around destination arithmetic arrive branch_way calls_into_function code_of decoded decoded_insn entries_of finished added_forms base_forms goes goes_on graph_of group_5 group_7 half has_bad_target has_target_in_site hint_of insn_of_object is_at_end is_dead_end is_entry is_unchecked_owner jump_table least_below loaded look look_form makes_room modrm_at modrm_fits nested never_returns_by opcode_at operands_at operands_by operation operation_by points_of_object pop_operand prefixes_at previous_of program_of uncopied_program push_operand reading rest_at returning_graph returns_at_last rex_at role_of save_of sib_at site_holding sites_of stored subtracted_by subtracted_from table_of_point text_sections_of texts_of map_at opcode_in two_byte_at two_byte_in unchecked_start unsized_of own_hint_of returns_through returning_at insn_by is_linked is_uncovered is_in_named_code
+  unfolding action_of address_loaded after around destination arithmetic arrive branch_way calls_into_function code_of decoded decoded_insn entries_of finished added_forms base_forms goes goes_on graph_of group_5 group_7 half has_bad_target has_target_in_site hint_of insn_of_object is_at_end is_dead_end is_entry is_unchecked_owner jump_table least_below loaded look look_form modrm_at modrm_fits nested never_returns_by opcode_at operands_at operands_by operation operation_by points_of_object pop_operand prefixes_at previous_of program_of uncopied_program push_operand named_written registers_written insn_with_copies is_stale is_wanted owner_makes_room reading rest_at returning_graph returns_at_last rex_at role_of save_of sib_at site_holding sites_of stored subtracted_by subtracted_from table_of_point text_sections_of texts_of map_at opcode_in two_byte_at two_byte_in unchecked_start unsized_of own_hint_of returns_through returning_at insn_by is_linked is_uncovered is_in_named_code
   no_unsized place c = nowhere place c
 
   not_hinted : (q : ℕ) (hint : HintState) → p.hint q ≡ Some hint → ⊥
@@ -230,6 +241,8 @@ module _ (lists : NameLists) (names : NamesNeither lists) where
   refuted place rule a b (broken.modified_return q s k role r) = no_rule 5 (return_rule s) ((is_fine q s k).returns role) r
   refuted place rule a b (broken.drops_bytes q s k role op n) = not_inside q RetImm refl (is_fine q s k).inside op
   refuted place rule a b (broken.modified_sibling q s k l r) = no_jump q (is_fine q s k).stays l
+  refuted place rule a b (broken.faults_between q r s k c ne) = let e : Fixup ≡ Next = (right_edge q (edge r Fixup) c).next in let z : ⊥ = cc in z
+  refuted place rule a b (broken.calls_between q s k is ne) = wrong _ ne (is_fine q s k).calls
   refuted place rule a b (broken.refused q n s k e before) = let m = (is_fine q s k).moves in let i : Ok m.0 ≡ Err n = sym (moved_as q s m.0 (kept_state q s k) m.1) ∙ e in cc
   refuted place rule a b (broken.unfit q s n k e) = let i : None ≡ Some n = sym (is_fine q s k).fits ∙ e in cc
   refuted place rule a b (broken.variants_disagree site q r s t kq kr e ne) = no_site site kq.listed
@@ -252,25 +265,25 @@ module _ (lists : NameLists) (names : NamesNeither lists) where
   goes_to : (a q : ℕ) (s t : State) → IsPoint p a → Kept p a s → states q ≡ Some t → Contains (p.goes a) (edge q Next) → can_go p a Next ≡ true → move s (p.insn a).op ≡ Ok t → Kept p q t
   goes_to a q s t point kept there along goes moves =
       let brings = brings_along p a s (edge q Next) t (in_filter (λ (e : Edge). can_go p a e.kind) (p.goes a) (edge q Next) along goes) (subst (λ (r : Result State ℕ). Contains (brought_along s r Next) t) (sym (moved_as a s t (kept_state a s kept) moves)) (here t [])) in
-      let k = brought_kept p a q s t point kept brings (checked q) (subst (λ (h : Option HintState). is_free h ≡ true) (sym (no_hint q)) refl) in
+      let k = brought_kept p a q s (held_by (p.held q) t) point kept brings (checked q) (subst (λ (h : Option HintState). is_free h ≡ true) (sym (no_hint q)) refl) in
       let e : Some t ≡ Some k.0 = sym there ∙ kept_state q k.0 k.1 in
       let same : t ≡ k.0 = cc in
       subst (λ (u : State). Kept p q u) (sym same) k.1
 
   at_call : Kept p 1 pushed
-  unfolding action_of address_loaded after around destination arithmetic arrive branch_way calls_into_function code_of decoded decoded_insn entries_of finished added_forms base_forms goes goes_on graph_of group_5 group_7 half has_bad_target has_target_in_site hint_of insn_of_object is_at_end is_dead_end is_entry is_unchecked_owner jump_table least_below loaded look look_form makes_room modrm_at modrm_fits nested never_returns_by opcode_at operands_at operands_by operation operation_by points_of_object pop_operand prefixes_at previous_of program_of uncopied_program push_operand reading rest_at returning_graph returns_at_last rex_at role_of save_of sib_at site_holding sites_of stored subtracted_by subtracted_from table_of_point text_sections_of texts_of map_at opcode_in two_byte_at two_byte_in unchecked_start unsized_of own_hint_of returns_through returning_at insn_by is_linked is_uncovered is_in_named_code
+  unfolding action_of address_loaded after around destination arithmetic arrive branch_way calls_into_function code_of decoded decoded_insn entries_of finished added_forms base_forms goes goes_on graph_of group_5 group_7 half has_bad_target has_target_in_site hint_of insn_of_object is_at_end is_dead_end is_entry is_unchecked_owner jump_table least_below loaded look look_form modrm_at modrm_fits nested never_returns_by opcode_at operands_at operands_by operation operation_by points_of_object pop_operand prefixes_at previous_of program_of uncopied_program push_operand named_written registers_written insn_with_copies is_stale is_wanted owner_makes_room reading rest_at returning_graph returns_at_last rex_at role_of save_of sib_at site_holding sites_of stored subtracted_by subtracted_from table_of_point text_sections_of texts_of map_at opcode_in two_byte_at two_byte_in unchecked_start unsized_of own_hint_of returns_through returning_at insn_by is_linked is_uncovered is_in_named_code
   at_call = goes_to 0 1 initial pushed (lit< tt) (0, refl) refl (0, lit< tt, refl) refl refl
 
   at_pop : Kept p 2 pushed
-  unfolding action_of address_loaded after around destination arithmetic arrive branch_way calls_into_function code_of decoded decoded_insn entries_of finished added_forms base_forms goes goes_on graph_of group_5 group_7 half has_bad_target has_target_in_site hint_of insn_of_object is_at_end is_dead_end is_entry is_unchecked_owner jump_table least_below loaded look look_form makes_room modrm_at modrm_fits nested never_returns_by opcode_at operands_at operands_by operation operation_by points_of_object pop_operand prefixes_at previous_of program_of uncopied_program push_operand reading rest_at returning_graph returns_at_last rex_at role_of save_of sib_at site_holding sites_of stored subtracted_by subtracted_from table_of_point text_sections_of texts_of map_at opcode_in two_byte_at two_byte_in unchecked_start unsized_of own_hint_of returns_through returning_at insn_by is_linked is_uncovered is_in_named_code
+  unfolding action_of address_loaded after around destination arithmetic arrive branch_way calls_into_function code_of decoded decoded_insn entries_of finished added_forms base_forms goes goes_on graph_of group_5 group_7 half has_bad_target has_target_in_site hint_of insn_of_object is_at_end is_dead_end is_entry is_unchecked_owner jump_table least_below loaded look look_form modrm_at modrm_fits nested never_returns_by opcode_at operands_at operands_by operation operation_by points_of_object pop_operand prefixes_at previous_of program_of uncopied_program push_operand named_written registers_written insn_with_copies is_stale is_wanted owner_makes_room reading rest_at returning_graph returns_at_last rex_at role_of save_of sib_at site_holding sites_of stored subtracted_by subtracted_from table_of_point text_sections_of texts_of map_at opcode_in two_byte_at two_byte_in unchecked_start unsized_of own_hint_of returns_through returning_at insn_by is_linked is_uncovered is_in_named_code
   at_pop = goes_to 1 2 pushed pushed (lit< tt) at_call refl (0, lit< tt, refl) (ap (λ (b : Bool). not b && true) names.returns) refl
 
   at_return : Kept p 3 initial
-  unfolding action_of address_loaded after around destination arithmetic arrive branch_way calls_into_function code_of decoded decoded_insn entries_of finished added_forms base_forms goes goes_on graph_of group_5 group_7 half has_bad_target has_target_in_site hint_of insn_of_object is_at_end is_dead_end is_entry is_unchecked_owner jump_table least_below loaded look look_form makes_room modrm_at modrm_fits nested never_returns_by opcode_at operands_at operands_by operation operation_by points_of_object pop_operand prefixes_at previous_of program_of uncopied_program push_operand reading rest_at returning_graph returns_at_last rex_at role_of save_of sib_at site_holding sites_of stored subtracted_by subtracted_from table_of_point text_sections_of texts_of map_at opcode_in two_byte_at two_byte_in unchecked_start unsized_of own_hint_of returns_through returning_at insn_by is_linked is_uncovered is_in_named_code
+  unfolding action_of address_loaded after around destination arithmetic arrive branch_way calls_into_function code_of decoded decoded_insn entries_of finished added_forms base_forms goes goes_on graph_of group_5 group_7 half has_bad_target has_target_in_site hint_of insn_of_object is_at_end is_dead_end is_entry is_unchecked_owner jump_table least_below loaded look look_form modrm_at modrm_fits nested never_returns_by opcode_at operands_at operands_by operation operation_by points_of_object pop_operand prefixes_at previous_of program_of uncopied_program push_operand named_written registers_written insn_with_copies is_stale is_wanted owner_makes_room reading rest_at returning_graph returns_at_last rex_at role_of save_of sib_at site_holding sites_of stored subtracted_by subtracted_from table_of_point text_sections_of texts_of map_at opcode_in two_byte_at two_byte_in unchecked_start unsized_of own_hint_of returns_through returning_at insn_by is_linked is_uncovered is_in_named_code
   at_return = goes_to 2 3 pushed initial (lit< tt) at_pop refl (0, lit< tt, refl) refl refl
 
   at_push : Kept p 0 initial
-  unfolding action_of address_loaded after around destination arithmetic arrive branch_way calls_into_function code_of decoded decoded_insn entries_of finished added_forms base_forms goes goes_on graph_of group_5 group_7 half has_bad_target has_target_in_site hint_of insn_of_object is_at_end is_dead_end is_entry is_unchecked_owner jump_table least_below loaded look look_form makes_room modrm_at modrm_fits nested never_returns_by opcode_at operands_at operands_by operation operation_by points_of_object pop_operand prefixes_at previous_of program_of uncopied_program push_operand reading rest_at returning_graph returns_at_last rex_at role_of save_of sib_at site_holding sites_of stored subtracted_by subtracted_from table_of_point text_sections_of texts_of map_at opcode_in two_byte_at two_byte_in unchecked_start unsized_of own_hint_of returns_through returning_at insn_by is_linked is_uncovered is_in_named_code
+  unfolding action_of address_loaded after around destination arithmetic arrive branch_way calls_into_function code_of decoded decoded_insn entries_of finished added_forms base_forms goes goes_on graph_of group_5 group_7 half has_bad_target has_target_in_site hint_of insn_of_object is_at_end is_dead_end is_entry is_unchecked_owner jump_table least_below loaded look look_form modrm_at modrm_fits nested never_returns_by opcode_at operands_at operands_by operation operation_by points_of_object pop_operand prefixes_at previous_of program_of uncopied_program push_operand named_written registers_written insn_with_copies is_stale is_wanted owner_makes_room reading rest_at returning_graph returns_at_last rex_at role_of save_of sib_at site_holding sites_of stored subtracted_by subtracted_from table_of_point text_sections_of texts_of map_at opcode_in two_byte_at two_byte_in unchecked_start unsized_of own_hint_of returns_through returning_at insn_by is_linked is_uncovered is_in_named_code
   at_push = (0, refl)
 
   alike : (q : ℕ) (s t : State) → Kept p q s → Some s ≡ Some t → Kept p q t

@@ -8,7 +8,7 @@ use Rattle.state_defs.specs.declared.state.BpHome.TheVariants.{Same}
 use Rattle.state_defs.specs.declared.state.Depth.TheVariants.{Known}
 use Rattle.state_defs.specs.declared.state.State.{State}
 use Rattle.state_defs.specs.declared.state.State.TheVariants.{Live}
-use Rattle.state_defs.specs.Frame.{Unsaved}
+use Rattle.state_defs.specs.Frame.{Frame, Unsaved}
 use Rattle.state_defs.specs.Region.{Region, word_at}
 use Rattle.state_defs.specs.Row.{row_of, zero_row}
 use Rattle.state_defs.specs.State.{initial}
@@ -18,6 +18,7 @@ use Rattle.machine_defs.specs.Machine.{At, Bases, Standing}
 use Rattle.machine_defs.specs.Program.{below}
 use Rattle.machine_defs.specs.Rows.{placed, rows_of}
 use Rattle.machine_defs.specs.Run.{Run, outermost}
+use Rattle.machine_defs.specs.Worked.{over}
 use Rattle.unwinding_law.specs.Worked.{place_at}
 use Rattle.table_defs.specs.declared.frame.Stop.TheVariants.{Outside}
 use Rattle.table_defs.specs.declared.range.Range.{Range}
@@ -53,13 +54,11 @@ ranges = record { sec = 1; base = 0x1000; size = 8 } ∷ []
 abbrev pub stack : ℕ → Region
 stack word = record { lo = 0x8000; bytes = word ∷ zeros 7 ++ 0x78 ∷ 0x56 ∷ zeros 6 }
 
+abbrev pub called : Frame
+called = outermost (over (stack 0) 0x8008 5 []) 0x5678 0x8010 5 Unsaved false
+
 abbrev pub standing : ℕ → ℕ → ℕ → Standing
-standing point rsp word = record {
-  point = point;
-  core = record { rsp = rsp; rbp = 5; region = stack word; ac = false; shadow = outermost 0x5678 0x8010 5 Unsaved false ∷ [] };
-  ended = None;
-  mark = None;
-}
+standing point rsp word = record { point = point; core = over (stack word) rsp 5 (called ∷ []); ended = None; mark = None }
 
 abbrev pub at_entry : Standing
 at_entry = standing 0 0x8008 0
@@ -69,7 +68,7 @@ after_push = standing 1 0x8000 7
 
 -- the states of its points: behind the push the frame's top is 16 bytes above rsp
 abbrev pub pushed : State
-pushed = Live (Known (pos 16)) None Same
+pushed = Live (Known (pos 16)) None Same None
 
 abbrev pub states : ℕ → Option State
 states q = slice_index_or (Some initial ∷ Some pushed ∷ Some pushed ∷ Some initial ∷ []) q None
@@ -90,5 +89,5 @@ pub record UnwindsWorked (lists : NameLists) : Type 0 where
   pub told : rows_of (program_of worked lists) states ≡ rows
   pub placed_by : IsPlacedBy (program_of worked lists) bases ranges
   pub run : Run (program_of worked lists) bases (At after_push)
-  pub walk : Walks rows ranges (λ address. word_at (stack 7) address) (record { ip = 0x1001; sp = 0x8000; bp = 5 }) (record { ra = 0x5678; cfa = 0x8010; bp = 5 } ∷ []) Outside
+  pub walk : Walks rows ranges (λ address. word_at (stack 7 ∷ []) address) (record { ip = 0x1001; sp = 0x8000; bp = 5 }) (record { ra = 0x5678; cfa = 0x8010; bp = 5 } ∷ []) Outside
   pub unwinds : WalksToFrames (program_of worked lists) (rows_of (program_of worked lists) states) bases ranges (At after_push)

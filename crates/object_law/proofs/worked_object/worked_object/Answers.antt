@@ -1,7 +1,7 @@
 use Rattle.std.proofs.Common.{refl, arith, codes}
 use Rattle.elf_objects.specs.Below.{least_below}
 use Rattle.elf_objects.specs.Number.{half}
-use Rattle.flow_defs.specs.Arrival.{after, around, arrive, decoded_insn, hint_of, insn_of_object, is_at_end, is_dead_end, makes_room, own_hint_of}
+use Rattle.flow_defs.specs.Arrival.{after, around, arrive, decoded_insn, hint_of, insn_of_object, is_at_end, is_dead_end, own_hint_of}
 use Rattle.flow_defs.specs.Code.{points_of_object, texts_of}
 use Rattle.flow_defs.specs.Edges.{goes, goes_on}
 use Rattle.flow_defs.specs.Hints.{save_of}
@@ -17,7 +17,9 @@ use Rattle.flow_defs.specs.Sites.{site_holding, sites_of}
 use Rattle.flow_defs.specs.Targets.{destination}
 use Rattle.flow_defs.specs.Ways.{branch_way}
 use Rattle.special_sections.specs.Nested.{nested}
+use Rattle.machine_defs.specs.Copies.{insn_with_copies, is_stale, is_wanted, owner_makes_room}
 use Rattle.x86_decode.specs.Action.{action_of}
+use Rattle.x86_decode.specs.Fields.{named_written, registers_written}
 use Rattle.x86_decode.specs.Decoding.{decoded}
 use Rattle.x86_decode.specs.Operation.{address_loaded, arithmetic, group_5, group_7, jump_table, loaded, operation, operation_by, pop_operand, push_operand, stored, subtracted_by, subtracted_from}
 use Rattle.x86_decode.specs.Reading.{finished, modrm_at, modrm_fits, opcode_at, operands_at, operands_by, prefixes_at, reading, rest_at, rex_at, sib_at, map_at, opcode_in, two_byte_at, two_byte_in}
@@ -40,7 +42,7 @@ use Rattle.object_law.proofs.WorkedFile.{is_object}
 use Rattle.object_law.proofs.worked_object.worked_object.Goals as goal
 
 unwinds : ObjectUnwinds → (lists : NameLists) → NamesNeither lists → UnwindsWorked lists
-unfolding action_of address_loaded after around destination arithmetic arrive branch_way calls_into_function code_of decoded decoded_insn entries_of finished added_forms base_forms goes goes_on graph_of group_5 group_7 half has_bad_target has_target_in_site hint_of insn_of_object is_at_end is_dead_end is_entry is_unchecked_owner jump_table least_below loaded look look_form makes_room modrm_at modrm_fits nested never_returns_by opcode_at operands_at operands_by operation operation_by points_of_object pop_operand prefixes_at previous_of program_of uncopied_program push_operand reading rest_at returning_graph returns_at_last rex_at role_of save_of sib_at site_holding sites_of stored subtracted_by subtracted_from table_of_point text_sections_of texts_of map_at opcode_in two_byte_at two_byte_in unchecked_start unsized_of own_hint_of returns_through returning_at insn_by is_linked is_uncovered is_in_named_code flow_faults
+unfolding action_of address_loaded after around destination arithmetic arrive branch_way calls_into_function code_of decoded decoded_insn entries_of finished added_forms base_forms goes goes_on graph_of group_5 group_7 half has_bad_target has_target_in_site hint_of insn_of_object is_at_end is_dead_end is_entry is_unchecked_owner jump_table least_below loaded look look_form modrm_at modrm_fits nested never_returns_by opcode_at operands_at operands_by operation operation_by points_of_object pop_operand prefixes_at previous_of program_of uncopied_program push_operand named_written registers_written insn_with_copies is_stale is_wanted owner_makes_room reading rest_at returning_graph returns_at_last rex_at role_of save_of sib_at site_holding sites_of stored subtracted_by subtracted_from table_of_point text_sections_of texts_of map_at opcode_in two_byte_at two_byte_in unchecked_start unsized_of own_hint_of returns_through returning_at insn_by is_linked is_uncovered is_in_named_code flow_faults
 unwinds law lists names = record {
   order = order;
   flow = refl;
