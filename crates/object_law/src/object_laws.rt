@@ -20,7 +20,7 @@ pub fn program_enters_sites()
 
 /// The rows of an object in order unwind it: where its program breaks no rule, no run's stack is wrecked, and in each
 /// state of each run, wherever the object is placed, the walk over the rows of its kept states gives exactly the frames of
-/// the machine, and stops where they end.
+/// the machine, on whichever stacks they lie, and stops where they end, or at the register that a frame's top is in.
 pub fn object_unwinds()
     ensures { ObjectUnwinds }
 {
