@@ -1,3 +1,5 @@
 pub mod Points
 pub mod Retelling
 pub mod Unasked
+pub mod Behind
+pub mod Owners

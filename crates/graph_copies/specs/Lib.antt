@@ -1,2 +1,4 @@
 pub mod Asked
 pub mod Losses
+pub mod Cells
+pub mod Rooms

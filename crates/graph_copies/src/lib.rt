@@ -3,6 +3,8 @@
 
 mod adding;
 mod asking;
+mod cells;
+mod rooms;
 
 pub use adding::add_copies;
 pub use asking::asks;
