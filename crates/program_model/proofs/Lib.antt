@@ -2,3 +2,4 @@ pub mod Points
 pub mod Words
 pub mod Writes
 pub mod Edges
+pub mod Stacks

@@ -1,5 +1,5 @@
 -- Bytes and words that are written to the stack in memory.
-use Rattle.std.proofs.Common.{◌≡◌, ◌≢◌, ◌⊎◌, inl, inr, ℕ, ◌+◌, ◌-◌, ◌^◌, ◌<◌, ◌≤◌, Bool, true, false, ◌&&◌, cond, List, [], ◌∷◌, length, get_or, take, drop, arith, lit<, refl, sym, ap, ◌∙◌, subst, length-drop}
+use Rattle.std.proofs.Common.{◌≡◌, ◌≢◌, ◌⊎◌, inl, inr, ℕ, ◌+◌, ◌-◌, ◌^◌, ◌<◌, ◌≤◌, Bool, true, false, ◌&&◌, cond, List, [], ◌∷◌, length, get_or, take, drop, arith, refl, sym, ap, ◌∙◌, subst, length-drop}
 use Rattle.std.specs.Prelude.{Option, Some, None, IsSome, nat_le, slice_get, slice_index, MatchOption}
 use Rattle.std.proofs.lemmas.List.{ext_get_or, get_or-take, get_or-drop, length-take}
 use Rattle.std.proofs.lemmas.Option.{slice_get-get_or, get_or_from_slice_get}
@@ -7,8 +7,8 @@ use Rattle.std.proofs.lemmas.Bool.{cases_lt, le-leb, leb-true}
 use Rattle.std.proofs.lemmas.Nat.{from_le_bytes-to_le_bytes_8}
 use Rattle.std.specs.Int.{w64, to_le_bytes, from_le_bytes}
 use Rattle.state_defs.specs.Address.{up}
-use Rattle.state_defs.specs.Region.{Region, hi_of, byte_at, little_endian, has_word, word_at, Reads, IsBeside, SameAddresses, WritesOnly, WritesWord}
-use Rattle.program_model.specs.Region.{WritesBytes}
+use Rattle.state_defs.specs.Region.{Region, hi_of, byte_at, little_endian, has_word, word_in, IsBeside, SameAddresses, WritesOnlyIn}
+use Rattle.program_model.specs.Region.{WritesBytes, WritesWordIn}
 
 -- eight addresses in a row are apart
 pub up_apart : (a i j : ℕ) → i < j → j < 8 → up a i ≢ up a j
@@ -91,35 +91,26 @@ written_bytes a bytes r s eight high from upto w =
     get_or-take 8 (drop (a - s.lo) s.bytes) j 0 short ∙ get_or-drop (a - s.lo) s.bytes j 0 ∙ get_or_from_slice_get s.bytes ((a - s.lo) + j) (slice_index bytes j) 0 found)
 
 -- a word has eight bytes
-pub eight_written : (a word : ℕ) (bytes : List ℕ) (r s : Region) → bytes ≡ to_le_bytes w64 word → WritesBytes a (length bytes) bytes r s → WritesOnly a 8 r s
-eight_written a word bytes r s is w = subst (λ (n : ℕ). WritesOnly a n r s) (ap (λ (xs : List ℕ). length xs) is) w.only
+pub eight_written : (a word : ℕ) (bytes : List ℕ) (r s : Region) → bytes ≡ to_le_bytes w64 word → WritesBytes a (length bytes) bytes r s → WritesOnlyIn a 8 r s
+eight_written a word bytes r s is w = subst (λ (n : ℕ). WritesOnlyIn a n r s) (ap (λ (xs : List ℕ). length xs) is) w.only
 
 -- a word that was written may be read
 pub word_written : (a word : ℕ) (bytes : List ℕ) (r s : Region) → word < 2 ^ 64 → bytes ≡ to_le_bytes w64 word → hi_of r ≤ 2 ^ 64
-    → WritesBytes a (length bytes) bytes r s → WritesWord a word r s
+    → WritesBytes a (length bytes) bytes r s → WritesWordIn a word r s
 word_written a word bytes r s small is high w =
     let eight : length bytes ≡ 8 = ap (λ (xs : List ℕ). length xs) is in
     let all : WritesBytes a 8 bytes r s = subst (λ (n : ℕ). WritesBytes a n bytes r s) eight w in
-    let reads : Reads s a word =
+    let reads : MatchOption (word_in s a) (word < 2 ^ 64) (λ held. word ≡ held) =
     elim (true_or_false (has_word s a)) [
       | inl holds ↦
           let both : (nat_le s.lo a ≡ true) × (nat_le (a + 8) (hi_of s) ≡ true) = and_true _ _ holds in
           let numbers : take 8 (drop (a - s.lo) s.bytes) ≡ bytes =
           written_bytes a bytes r s eight high (omega (arith, leb-true _ _ both.0, all.only.addresses.lo)) (omega (arith, leb-true _ _ both.1, all.only.addresses.lo, all.only.addresses.size)) all in
-          let there : word_at s a ≡ Some (little_endian (take 8 (drop (a - s.lo) s.bytes))) = if_true (has_word s a) _ _ holds in
+          let there : word_in s a ≡ Some (little_endian (take 8 (drop (a - s.lo) s.bytes))) = if_true (has_word s a) _ _ holds in
           let number : little_endian (take 8 (drop (a - s.lo) s.bytes)) ≡ word = ap (λ (xs : List ℕ). little_endian xs) (numbers ∙ is) ∙ bytes_of_word word small in
           subst (λ (o : Option ℕ). MatchOption o (word < 2 ^ 64) (λ held. word ≡ held)) (sym there) (sym number)
       | inr fails ↦
-          let none : word_at s a ≡ None = if_false (has_word s a) _ _ fails in
+          let none : word_in s a ≡ None = if_false (has_word s a) _ _ fails in
           subst (λ (o : Option ℕ). MatchOption o (word < 2 ^ 64) (λ held. word ≡ held)) (sym none) small
     ] in
     record { only = all.only; word = reads }
-
--- a word outside the region may be any, so it may be another than this
-pub another_outside : (r : Region) (a word : ℕ) → word_at r a ≡ None → (other : ℕ) × Reads r a other × (other ≢ word)
-another_outside r a word none =
-    let any : (x : ℕ) → x < 2 ^ 64 → Reads r a x = λ x lt. subst (λ (o : Option ℕ). MatchOption o (x < 2 ^ 64) (λ held. x ≡ held)) (sym none) lt in
-    elim (cases_lt 0 word) [
-      | inl above ↦ (0, any 0 (lit< tt), λ e. omega (arith, above, e))
-      | inr zero ↦ (1, any 1 (lit< tt), λ e. omega (arith, zero, e))
-    ]

@@ -29,10 +29,14 @@ of_point p other field q = point_or other field (slice_get p.points.items q)
 
 -- no point's instruction, place and marks
 abbrev pub no_insn : Insn
-no_insn = record { len = 0; op = Nop }
+no_insn = record { len = 0; op = Nop; writes = 0 }
 
 abbrev pub no_place : Place
 no_place = record { sec = 0; off = 0 }
+
+-- whether a register is held at a point
+abbrev pub is_held_at : ModelPoint → ℕ → Bool
+is_held_at point reg = list_any (λ other. other == reg) point.held.items
 
 -- whether control that comes to a place may stand at a point: at the start of a site at the first of the
 -- original code and of each replacement, elsewhere at the plain point
@@ -67,6 +71,7 @@ program_of p may_return = record {
   names = λ q. of_point p None (λ x. x.names) q;
   marked_call = λ q. of_point p false (λ x. x.is_marked_call) q;
   dead_end = λ q. of_point p false (λ x. x.is_dead_end) q;
+  held = λ q reg. of_point p false (λ x. is_held_at x reg) q;
   marks = λ q. of_point p no_marks (λ x. x.marks) q;
   after = λ q. of_point p [] (λ x. x.after.items) q;
   arrive = λ place. filter (λ q. arrives p place q) (below (length p.points.items));

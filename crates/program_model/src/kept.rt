@@ -1,6 +1,10 @@
 ghost use Rattle.std.specs.Prelude.{◌≡◌};
 ghost use Rattle.state_defs.specs.Move.{move};
+ghost use Rattle.std.specs.Prelude.{◌&&◌, not};
+ghost use Rattle.state_defs.specs.State.{held_by};
+ghost use Rattle.state_defs.specs.Rules.{is_poised};
 ghost use Rattle.machine_defs.specs.Kept.{loosened, loses_stack};
+ghost use Rattle.program_model.specs.Program.{is_held_at};
 
 use crate::returning::{may_return, target_may_return};
 use crate::{ModelPoint, Program};
@@ -25,13 +29,22 @@ pub struct Kept {
     pub states: Vec<Option<State>>,
 }
 
+/// Whether rsp was just saved in a cell of another stack.
+fn is_poised(state: State) -> bool
+    ensures { result ≡ is_poised state }
+{
+    matches!(state, State::Poised { .. })
+}
+
 /// The state after the instruction of a point, or the rule that refuses it. Where loose code loses rsp or rbp nothing is known of
-/// the stack.
+/// the stack; right behind a store of rsp in a cell it has to go to the cell as all code.
 pub fn moved_at(point: &ModelPoint, state: State) -> Result<State, u8>
-    ensures { result ≡ loosened point.now.is_loose (move state point.now.insn.op) }
+    ensures { result ≡ loosened (point.now.is_loose && not (is_poised state)) (move state point.now.insn.op) }
 {
     match step(state, point.insn.op) {
-        Err(rule) if point.is_loose && loses_stack(rule) => Ok(State::Ended(EndKind::Undefined)),
+        Err(rule) if point.is_loose && !is_poised(state) && loses_stack(rule) => {
+            Ok(State::Ended(EndKind::Undefined))
+        }
         after => after,
     }
 }
@@ -53,6 +66,29 @@ fn brought_along(point: &ModelPoint, state: State, kind: EdgeKind) -> Option<Sta
         EdgeKind::Next | EdgeKind::Taken | EdgeKind::Table => moved_at(point, state).ok(),
         EdgeKind::Fixup => Some(state),
         EdgeKind::Sibling => None,
+    }
+}
+
+/// A state at a point: a copy of rsp stays in it only where its register is held there.
+fn held_at(point: &ModelPoint, state: State) -> State
+    ensures { result ≡ held_by (is_held_at point.now) state }
+{
+    match state {
+        State::Live {
+            depth,
+            fp,
+            bp,
+            copy,
+        } => {
+            let copy = copy.filter(|copy| point.is_held(copy.reg));
+            State::Live {
+                depth,
+                fp,
+                bp,
+                copy,
+            }
+        }
+        _ => state,
     }
 }
 
@@ -121,7 +157,7 @@ impl Kept {
         Ok(edges)
     }
 
-    /// The states that a point with this state brings to point q.
+    /// The states that a point with this state brings to point q, with the copy of rsp alone that is held there.
     pub fn brought_by(
         &self,
         alloc: Global,
@@ -131,10 +167,13 @@ impl Kept {
         q: u32,
     ) -> Result<Vec<State>, AllocError> {
         let mut states = Vec::new(alloc);
+        let Some(target) = p.point(q) else {
+            return Ok(states);
+        };
         for edge in &self.edges_of(alloc, p, from)? {
             if edge.to == q {
                 if let Some(brought) = brought_along(point, state, edge.kind) {
-                    states.push(brought)?;
+                    states.push(held_at(target, brought))?;
                 }
             }
         }
@@ -160,7 +199,7 @@ impl Kept {
     }
 
     /// A further level, for a point that isn't kept yet: the least state that is brought to it, or at a
-    /// RESTORE the state of its SAVE.
+    /// RESTORE the state of its SAVE, with the copy of rsp that is held there.
     fn later_state(
         &self,
         alloc: Global,
@@ -173,7 +212,10 @@ impl Kept {
         }
         match point.hint {
             Some(HintState::Set(_)) => Ok(None),
-            Some(HintState::Restore) => Ok(point.save_of.and_then(|save| self.state(save))),
+            Some(HintState::Restore) => {
+                let saved = point.save_of.and_then(|save| self.state(save));
+                Ok(saved.map(|state| held_at(point, state)))
+            }
             Some(HintState::Save) | None => self.least_brought(alloc, p, q),
         }
     }

@@ -1,33 +1,37 @@
 //! The rules of stack validation that speak of one kept point and where it goes.
 
 use crate::kept::{Kept, moved_at};
+use crate::site_rules::is_call_op;
 use crate::state_row::StateRow;
-use crate::state_rules::{iret_rule, return_rule, sibling_rule, switch_rule};
+use crate::state_rules::{
+    iret_rule, is_followed, is_followed_by, may_call, may_fault, return_rule, sibling_rule,
+    switch_rule,
+};
 use crate::ways::{is_free, lead_to_hints, may_leave};
 use crate::{ModelPoint, Program};
 use machine_defs::{Edge, EdgeKind, Role};
 use operation_defs::Op;
 use ot_base::{Place, Warning, rules};
-use state_defs::{Depth, HintState, State};
+use state_defs::{Depth, HintState, Phase, State};
 use std::alloc::{AllocError, Global};
 
 /// The number that a warning tells of a state.
 fn depth_number(state: State) -> i64 {
     match state {
-        State::Live {
-            depth: Depth::Known(n),
-            ..
-        } => n,
-        State::Live {
-            depth: Depth::AtLeast(n),
-            ..
-        } => 0i64.wrapping_sub(n),
+        State::Live { depth, .. } | State::Poised { depth, .. } => match depth {
+            Depth::Known(n) => n,
+            Depth::AtLeast(n) => 0i64.wrapping_sub(n),
+        },
         State::Ended(_) => 0,
-        State::Regs { depth, .. } => depth,
+        State::Regs { depth, .. } | State::Switched { depth, .. } => depth,
+        State::Drap { phase, .. } => match phase {
+            Phase::Bare { depth } => 0i64.wrapping_sub(depth),
+            Phase::Pushed { size } | Phase::Framed { size } | Phase::Homed { size, .. } => size,
+        },
     }
 }
 
-/// The warnings of rules 1, 3, 13 and 16: where control of a kept point can't go; and of 19: its state is followed by a
+/// The warnings of rules 1, 3, 13 and 16: where control of a kept point can't go; and of 19: its state is moved by a
 /// number that a relocation changes.
 fn mark_warnings(
     warnings: &mut Vec<Warning>,
@@ -35,10 +39,9 @@ fn mark_warnings(
     state: State,
 ) -> Result<(), AllocError> {
     let marks = point.marks;
-    let is_followed = !matches!(state, State::Ended(_));
-    let is_relocated = marks.relocated && is_followed;
+    let is_relocated = marks.relocated && is_followed_by(point.insn.op, state);
     // code of no function may run off where the stack has ended
-    let runs_off = marks.past_end && (point.owner.is_some() || is_followed);
+    let runs_off = marks.past_end && (point.owner.is_some() || is_followed(state));
     let marked = [
         (marks.bad, rules::BAD_BRANCH_TARGET),
         (runs_off, rules::RUNS_OFF_SECTION),
@@ -208,6 +211,22 @@ fn operation_warnings(
     Ok(())
 }
 
+/// The warnings of rule 9 at a point that may fault, or that calls, where the stack can't be told beside that.
+fn between_warnings(
+    warnings: &mut Vec<Warning>,
+    point: &ModelPoint,
+    state: State,
+    edges: &[Edge],
+) -> Result<(), AllocError> {
+    let has_fixup = edges.iter().any(|edge| edge.kind == EdgeKind::Fixup);
+    let faults = has_fixup && !may_fault(state);
+    let calls = is_call_op(point.insn.op) && !may_call(state);
+    if faults || calls {
+        warnings.push(Warning::bare(point.place, rules::STACK_POINTER_LOST))?;
+    }
+    Ok(())
+}
+
 /// The warnings of the rules that speak of one kept point and where it goes.
 pub fn point_warnings(
     warnings: &mut Vec<Warning>,
@@ -224,5 +243,6 @@ pub fn point_warnings(
     edge_warnings(warnings, alloc, p, kept, (q, point), state)?;
     return_warnings(warnings, point, state, may_leave)?;
     sibling_warnings(warnings, alloc, p, kept, (q, point), state, may_leave)?;
+    between_warnings(warnings, point, state, edges.as_slice())?;
     operation_warnings(warnings, point, state, is_before_hint)
 }

@@ -73,12 +73,26 @@ pub struct ModelPoint {
     pub is_marked_call: bool,
     /// Whether execution never passes it.
     pub is_dead_end: bool,
+    /// The registers that are held at it: copies of rsp on every way there, that are read as rsp further on.
+    pub held: Vec<u8>,
     /// What is wrong with where it goes.
     pub marks: Marks,
     /// The points that follow it.
     pub after: Vec<u32>,
     /// Whether it calls `__fentry__`.
     pub calls_fentry: bool,
+}
+
+impl ModelPoint {
+    ghost use Rattle.std.specs.Prelude.{◌≡◌};
+    ghost use Rattle.program_model.specs.Program.{is_held_at};
+
+    /// Whether a register is held at the point.
+    pub fn is_held(&self, reg: u8) -> bool
+        ensures { result ≡ is_held_at self.now reg }
+    {
+        self.held.contains(&reg)
+    }
 }
 
 /// No point's place.
@@ -168,6 +182,7 @@ impl Program {
             None => Insn {
                 len: 0,
                 op: Op::Nop,
+                writes: 0,
             },
         }
     }

@@ -16,13 +16,36 @@ pub struct Store {
 /// Every stack ends below this address, a gigabyte below the last.
 const END_OF_STACKS: u128 = (1 << 64) - (1 << 30);
 
-/// The stack in memory: the addresses from `lo` on, one byte each.
-#[derive(Clone, Drop)]
+/// Where a stack lies: from its lowest address to the one behind its last byte.
+#[derive(Clone, Copy, PartialEq)]
+pub struct Stack {
+    /// Its lowest address.
+    pub lo: u64,
+    /// The address behind its last byte.
+    pub hi: u64,
+}
+
+/// A stack in memory: the addresses from `lo` on, one byte each.
+#[derive(Drop)]
 pub struct Region {
     /// The first address.
     pub lo: u64,
     /// The bytes from there on.
     pub bytes: Vec<u8>,
+}
+
+impl Clone for Region {
+    ghost use Rattle.std.specs.Prelude.{◌≡◌};
+    ghost use Rattle.program_model.specs.Region.{region_of};
+
+    ghost is_clone = { λ r s. region_of s ≡ region_of r };
+
+    fn clone(&self) -> Result<Region, AllocError> {
+        Ok(Region {
+            lo: self.lo,
+            bytes: self.bytes.clone()?,
+        })
+    }
 }
 
 /// The number that these bytes are, the lowest first.
@@ -39,9 +62,9 @@ fn little_endian(bytes: &[u8]) -> u64
 }
 
 impl Region {
-    ghost use Rattle.std.specs.Prelude.{◌≡◌, ◌≢◌, ℕ, ◌<◌, All, IfOk, IfSome, IsSome, IsTrue, Some};
-    ghost use Rattle.state_defs.specs.Region.{hi_of, IsRegion, byte_at, word_at, Reads, SameAddresses, WritesOnly, WritesWord, Stores};
-    ghost use Rattle.program_model.specs.Region.{region_of, WritesBytes, StoresWord};
+    ghost use Rattle.std.specs.Prelude.{◌≡◌, ◌≢◌, ℕ, ◌<◌, IsSome, IsTrue, Some};
+    ghost use Rattle.state_defs.specs.Region.{hi_of, IsRegion, byte_at, word_in, stack_of, SameAddresses, WritesOnlyIn};
+    ghost use Rattle.program_model.specs.Region.{region_of, own_stack, WritesBytes, WritesWordIn};
 
     /// The address behind the last byte, a plain sum.
     pub fn end(&self) -> u128
@@ -58,6 +81,13 @@ impl Region {
         u128::from(self.lo) + (bytes.len() as u128) < END_OF_STACKS
     }
 
+    /// Whether the region is the stack that lies there.
+    pub fn is_stack(&self, stack: Stack) -> bool
+        ensures { IsTrue result → stack_of (region_of self.now) ≡ own_stack stack }
+    {
+        self.lo == stack.lo && self.end() == u128::from(stack.hi)
+    }
+
     /// The byte at an address, where the region has one.
     pub fn byte_at(&self, address: u64) -> Option<u8>
         ensures { result ≡ byte_at (region_of self.now) address }
@@ -71,7 +101,7 @@ impl Region {
 
     /// The word at an address: eight bytes, all of them in the region.
     pub fn word_at(&self, address: u64) -> Option<u64>
-        ensures { result ≡ word_at (region_of self.now) address }
+        ensures { result ≡ word_in (region_of self.now) address }
     {
         if self.lo <= address && u128::from(address) + 8 <= self.end() {
             let first = (address - self.lo) as usize;
@@ -79,37 +109,6 @@ impl Region {
             Some(little_endian(word))
         } else {
             None
-        }
-    }
-
-    /// The word that an instruction reads at an address: what the region holds there, or any word
-    /// where not all of it is in the region.
-    pub fn read(&self, address: u64, any: u64) -> u64
-        ensures { Reads (region_of self.now) address result }
-    {
-        match self.word_at(address) {
-            Some(held) => held,
-            None => any,
-        }
-    }
-
-    /// Whether an instruction that reads the word at an address may get this one.
-    pub fn may_read(&self, address: u64, word: u64) -> bool
-        ensures { IsTrue result → Reads (region_of self.now) address word }
-    {
-        match self.word_at(address) {
-            Some(held) => word == held,
-            None => true,
-        }
-    }
-
-    /// Whether an instruction that reads the word at an address may get another than this.
-    pub fn may_read_another(&self, address: u64, word: u64) -> bool
-        ensures { IsTrue result → (other : ℕ) × Reads (region_of self.now) address other × (other ≢ word) }
-    {
-        match self.word_at(address) {
-            Some(held) => held != word,
-            None => true,
         }
     }
 
@@ -141,65 +140,9 @@ impl Region {
     /// Writes a word, as far as the region has its bytes.
     #[tactic(auto, using(crate::proofs::Writes::word_written))]
     pub fn write_word(&mut self, address: u64, word: u64)
-        ensures only { WritesOnly address 8 (region_of self.old) (region_of self.new) }
-        ensures word { hi_of (region_of self.old) ≤ 2 ^ 64 → WritesWord address word (region_of self.old) (region_of self.new) }
+        ensures only { WritesOnlyIn address 8 (region_of self.old) (region_of self.new) }
+        ensures word { hi_of (region_of self.old) ≤ 2 ^ 64 → WritesWordIn address word (region_of self.old) (region_of self.new) }
     {
         self.write_bytes(address, &word.to_le_bytes());
-    }
-
-    /// Whether the word at an address is the same as in another region.
-    fn has_same_word(&self, other: &Region, address: u64) -> bool
-        ensures { IsTrue result → word_at (region_of self.now) address ≡ word_at (region_of other.now) address }
-    {
-        match (self.word_at(address), other.word_at(address)) {
-            (Some(here), Some(there)) => here == there,
-            (None, None) => true,
-            _ => false,
-        }
-    }
-
-    /// Whether each of the words at these addresses is the same as in another region.
-    fn spares(&self, before: &Region, spared: &[u64]) -> bool
-        ensures { IsTrue result → All (λ a. word_at (region_of self.now) a ≡ word_at (region_of before.now) a) spared.now }
-    {
-        for address in spared {
-            if !self.has_same_word(before, *address) {
-                return false;
-            }
-        }
-        true
-    }
-
-    /// The region after these stores, where each of the words at these addresses is spared.
-    pub fn stored(&self, stores: &[Store], spared: &[u64]) -> Result<Option<Region>, AllocError>
-        ensures { IfOk result (λ stored. IfSome stored (λ after. Stores spared.now (region_of self.now) (region_of after))) }
-    {
-        let mut after = self.clone()?;
-        for store in stores {
-            after.write_byte(store.at, store.byte);
-        }
-        if after.spares(self, spared) {
-            Ok(Some(after))
-        } else {
-            Ok(None)
-        }
-    }
-
-    /// The region after this word was stored, where each of the words at these addresses is spared.
-    pub fn with_word(
-        &self,
-        address: u64,
-        word: u64,
-        spared: &[u64],
-    ) -> Result<Option<Region>, AllocError>
-        ensures { IfOk result (λ stored. IfSome stored (λ after. StoresWord address word spared.now (region_of self.now) (region_of after))) }
-    {
-        let mut after = self.clone()?;
-        after.write_word(address, word);
-        if after.spares(self, spared) {
-            Ok(Some(after))
-        } else {
-            Ok(None)
-        }
     }
 }

@@ -14,6 +14,11 @@ pub fn is_call_op(op: Op) -> bool {
     matches!(op, Op::Call { .. } | Op::CallInd)
 }
 
+/// Whether a walk looks at the last byte of an instruction: control comes back behind it, from a call or a breakpoint.
+fn is_looked_up_behind(op: Op) -> bool {
+    is_call_op(op) || matches!(op, Op::Int3)
+}
+
 /// A point of a site with its state, where it is kept.
 fn kept_in_site<'a>(
     p: &'a Program,
@@ -73,7 +78,7 @@ fn variants_disagree(
 }
 
 /// The warnings of one point of a site: another variant disagrees there, or the row in force at the
-/// last byte of a call isn't the call's.
+/// last byte of a call or breakpoint isn't its own.
 fn warnings_in_site(
     warnings: &mut Vec<Warning>,
     p: &Program,
@@ -88,7 +93,7 @@ fn warnings_in_site(
     if variants_disagree(p, kept, site, point, row) {
         warnings.push(disagrees_at(site, point.address.off))?;
     }
-    if is_call_op(point.insn.op) {
+    if is_looked_up_behind(point.insn.op) {
         let len = u64::from(point.insn.len);
         let last_byte = point.address.off.saturating_add(len).saturating_sub(1);
         if row_in_force(p, kept, site, last_byte).is_some_and(|other| other != row) {

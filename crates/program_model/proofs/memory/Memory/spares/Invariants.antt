@@ -2,8 +2,8 @@
 use Rattle.std.proofs.Common.{◌≡◌, take}
 use Rattle.std.specs.Prelude.{All}
 use Rattle.state_defs.specs.Region.{word_at}
-use Rattle.program_model.specs.Region.{region_of}
-use Rattle.program_model.proofs.region.Region.spares.Given as goal
+use Rattle.program_model.specs.Region.{memory_of}
+use Rattle.program_model.proofs.memory.Memory.spares.Given as goal
 
 abbrev pub invariant-loop-address : goal.invariant-loop-address
-invariant-loop-address l = All (λ a. word_at (region_of l.self) a ≡ word_at (region_of l.before) a) (take l.address-index l.spared)
+invariant-loop-address l = All (λ a. word_at (memory_of l.self) a ≡ word_at (memory_of l.before) a) (take l.address-index l.spared)
