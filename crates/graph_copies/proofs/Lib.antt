@@ -3,3 +3,5 @@ pub mod Retelling
 pub mod Unasked
 pub mod Behind
 pub mod Owners
+pub mod Changing
+pub mod Remade

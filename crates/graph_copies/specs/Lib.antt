@@ -2,3 +2,4 @@ pub mod Asked
 pub mod Losses
 pub mod Cells
 pub mod Rooms
+pub mod Changes

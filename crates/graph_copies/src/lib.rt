@@ -4,6 +4,7 @@
 mod adding;
 mod asking;
 mod cells;
+mod remaking;
 mod rooms;
 
 pub use adding::add_copies;
