@@ -13,7 +13,7 @@ use Rattle.machine_defs.specs.Machine.{At, Bases, Machine, Standing, Wrecked}
 use Rattle.machine_defs.specs.MayReturn.{calls_outside as may_go_outside, is_listed}
 use Rattle.machine_defs.specs.Ways.{comes_back_as_outside}
 use Rattle.machine_defs.specs.Program.{IsPoint, Program, edge, entry_points}
-use Rattle.machine_defs.specs.Step.{IsTarget, JumpsTo, Step, calls_in, calls_out, faults, goes_on, indirect, interrupted, irets, may_go_back, returns, sibling, tail_calls, wrecks}
+use Rattle.machine_defs.specs.Step.{IsTarget, JumpsTo, Step, calls_in, calls_out, faults, goes_on, indirect, interrupted, irets, irets_behind, may_go_back, returns, sibling, tail_calls, wrecks}
 use Rattle.unwinding_law.proofs.Lists.{in_filter}
 use Rattle.option_law.proofs.Effects.{landed}
 use Rattle.entry_rules.specs.declared.options.EntryOptions.{EntryOptions}
@@ -99,17 +99,18 @@ module _ (p : Program) (facts : EntryFacts) (options : EntryOptions) (is : IsPro
   module _ (bases : Bases) where
     step_inside : options.noinstr ≡ true → (m n : Machine) (step : Step p bases m n) → StandsThere p bases is m → StepsInside facts step
     step_inside asked _ _ (calls_in s t u how lands) h = λ inside.
-        moved t u (landed p t u lands).point
+        moved t u (landed p bases t u lands).point
         (arrives_inside asked s.point h.point inside how.entry t.point (callee_of asked s.point h.point inside (p.role s.point) how.entry refl how.target) how.arrives
         (called_inside asked s.point h.point inside (p.role s.point) how.entry refl how.target))
     step_inside asked _ _ (calls_out s t u how lands) h = λ inside. calls_such asked s.point h.point inside (p.role s.point) refl how.target
-    step_inside asked _ _ (tail_calls s t u how lands) h = λ inside. moved t u (landed p t u lands).point (jumps_inside asked s.point h.point inside t.point how.target)
+    step_inside asked _ _ (tail_calls s t u how lands) h = λ inside. moved t u (landed p bases t u lands).point (jumps_inside asked s.point h.point inside t.point how.target)
     step_inside asked _ _ (returns s t u how lands) h = λ inside. returns_itself asked s.point h.point inside (p.role s.point) refl how.leaves
     step_inside asked _ _ (goes_on s t u how lands) h = tt
     step_inside asked _ _ (faults s t u how lands) h = tt
     step_inside asked _ _ (wrecks s how) h = tt
     step_inside asked _ _ (interrupted s t u how lands) h = tt
     step_inside asked _ _ (irets s t how) h = tt
+    step_inside asked _ _ (irets_behind s t u how lands) h = tt
 
     -- Rules 52 and 53.
 
@@ -135,6 +136,7 @@ module _ (p : Program) (facts : EntryFacts) (options : EntryOptions) (is : IsPro
     step_endbr asked _ _ (wrecks s how) = tt
     step_endbr asked _ _ (interrupted s t u how lands) = tt
     step_endbr asked _ _ (irets s t how) = tt
+    step_endbr asked _ _ (irets_behind s t u how lands) = tt
 
 pub entry_law : EntryLaw
 entry_law p facts options is at_places clean = record {

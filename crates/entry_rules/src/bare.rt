@@ -60,7 +60,7 @@ fn push_point(
     requires listed { length graph.now.parts.points.items ≡ length (points_of_object linked.now) }
     ensures { OnOk result ((lists : NameLists) → Tells (program_of linked.now lists) graph.now.parts → Gains into.old.items into.new.items (PointIsBare (program_of linked.now lists) n)) }
 {
-    let op = graph.insn(n).op;
+    let op = graph.op(n);
     let is_return = is_return(op);
     let is_jump = is_indirect_jump(op);
     if !is_return && !is_jump {

@@ -49,7 +49,7 @@ fn push_point(
     requires excused { HaveSamePlaces (excused_places places.now.elf) excused.now }
     ensures { OnOk result ((lists : NameLists) → Tells (program_of places.now lists) graph.now.parts → Gains into.old.items into.new.items (PointIsTaken (program_of places.now lists) (facts_of places.now) n)) }
 {
-    if is_endbr(graph.insn(n).op) {
+    if is_endbr(graph.op(n)) {
         return Ok(());
     }
     let Some(entry) = entry_of_point(places, n) else {
