@@ -1,17 +1,17 @@
 -- A walk that reads what it asks for is the same over a memory that has more.
-use Rattle.std.proofs.Common.{◌≡◌, ℕ, Bool, true, false, cond, not, ◌||◌, List, Option, Some, None, Result, Ok, Err, refl, ap, ◌∙◌, subst}
+use Rattle.std.proofs.Common.{◌≡◌, ℕ, Bool, true, false, cond, not, ◌&&◌, ◌||◌, List, Option, Some, None, Result, Ok, Err, refl, ap, ◌∙◌, subst}
 use Rattle.std.specs.Prelude.{◌==◌, nat_lt}
 use Rattle.ot_base.specs.Address.{up}
 use Rattle.ot_base.specs.declared.row.Row.{Row}
 use Rattle.ot_base.specs.declared.row.PlacedRow.{PlacedRow}
-use Rattle.ot_base.specs.declared.codes.TheConstants.{REG_UNDEFINED, REG_PREV_SP, REG_BP, REG_SP, KIND_UNDEFINED, KIND_END_OF_STACK, KIND_CALL, KIND_REGS}
+use Rattle.ot_base.specs.declared.codes.TheConstants.{REG_UNDEFINED, REG_PREV_SP, REG_BP, REG_SP, REG_BP_INDIRECT, KIND_UNDEFINED, KIND_END_OF_STACK, KIND_CALL, KIND_REGS}
 use Rattle.table_defs.specs.declared.codes.TheConstants.{PT_REGS_BP, PT_REGS_SP, IRET_SP}
 use Rattle.table_defs.specs.declared.frame.Frame.{Frame}
 use Rattle.table_defs.specs.declared.frame.Regs.{Regs}
 use Rattle.table_defs.specs.declared.frame.Stop.{Stop}
 use Rattle.table_defs.specs.declared.frame.Stop.TheVariants.{Outside, EndOfStack, Undefined, NoRow, BaseUnknown, Unreadable, NotRising, NoMemory}
 use Rattle.table_defs.specs.declared.range.Range.{Range}
-use Rattle.table_defs.specs.Walk.{Memory, WalksFrom, outside, no_row, stops, goes_on, ◌>>=◌, word_or_stop, read, offset_by, pointed_to, ra_address, caller_sp, caller_bp, frame_of, unwound}
+use Rattle.table_defs.specs.Walk.{Memory, WalksFrom, outside, no_row, stops, goes_on, ◌>>=◌, word_or_stop, read, offset_by, is_followed, is_switch, stacks_behind, pointed_to, ra_address, caller_sp, caller_bp, frame_of, unwound}
 
 -- each word of the one memory stands in the other
 abbrev pub HasAll : Memory → Memory → Type 0
@@ -104,19 +104,44 @@ caller_bp_stop memory regs row at cfa s h = go (row.bp_reg == REG_PREV_SP) (row.
     go false false true h = read_stop memory (up at PT_REGS_BP) s h
     go false false false h = ok_err h
 
-frame_more : (small large : Memory) → HasAll small large → (regs : Regs) (row : Row) (frame : Frame) → frame_of small regs row ≡ Ok frame → frame_of large regs row ≡ Ok frame
-frame_more small large all regs row frame h =
-    let at = pointed_to regs row in
-    bind_more _ _ _ _ frame h (λ ra. read_more small large all (ra_address row at) ra)
-    (λ ra h. bind_more _ _ _ _ frame h (λ cfa. caller_sp_more small large all row at cfa)
-    (λ cfa h. bind_more _ _ _ _ frame h (λ bp. caller_bp_more small large all regs row at cfa bp) (λ bp h. h)))
+-- the address so many bytes above a word, as a row counts
+abbrev onward : Row → ℕ → Result ℕ Stop
+onward row word = Ok (offset_by word row.sp_offset)
 
-frame_stop : (memory : Memory) (regs : Regs) (row : Row) (s : Stop) → frame_of memory regs row ≡ Err s → TellsOfWords s
-frame_stop memory regs row s h =
-    let at = pointed_to regs row in
-    bind_stop TellsOfWords _ _ s h (λ t. read_stop memory (ra_address row at) t)
+pointed_to_more : (small large : Memory) → HasAll small large → (regs : Regs) (row : Row) (at : ℕ) → pointed_to small regs row ≡ Ok at → pointed_to large regs row ≡ Ok at
+pointed_to_more small large all regs row at h = go (row.sp_reg == REG_SP) (row.sp_reg == REG_BP) (row.sp_reg == REG_BP_INDIRECT) h
+  where
+    go :
+        (sp bp indirect : Bool)
+        → cond sp (onward row regs.sp) (cond bp (onward row regs.bp) (cond indirect (read small (offset_by regs.bp row.sp_offset)) (read small regs.sp >>= onward row))) ≡ Ok at
+        → cond sp (onward row regs.sp) (cond bp (onward row regs.bp) (cond indirect (read large (offset_by regs.bp row.sp_offset)) (read large regs.sp >>= onward row))) ≡ Ok at
+    go true bp indirect h = h
+    go false true indirect h = h
+    go false false true h = read_more small large all (offset_by regs.bp row.sp_offset) at h
+    go false false false h = bind_more _ _ (onward row) (onward row) at h (λ word. read_more small large all regs.sp word) (λ word h. h)
+
+pointed_to_stop : (memory : Memory) (regs : Regs) (row : Row) (s : Stop) → pointed_to memory regs row ≡ Err s → TellsOfWords s
+pointed_to_stop memory regs row s h = go (row.sp_reg == REG_SP) (row.sp_reg == REG_BP) (row.sp_reg == REG_BP_INDIRECT) h
+  where
+    go : (sp bp indirect : Bool) → cond sp (onward row regs.sp) (cond bp (onward row regs.bp) (cond indirect (read memory (offset_by regs.bp row.sp_offset)) (read memory regs.sp >>= onward row))) ≡ Err s → TellsOfWords s
+    go true bp indirect h = ok_err h
+    go false true indirect h = ok_err h
+    go false false true h = read_stop memory (offset_by regs.bp row.sp_offset) s h
+    go false false false h = bind_stop TellsOfWords _ (onward row) s h (λ t. read_stop memory regs.sp t) (λ word h. ok_err h)
+
+frame_more : (small large : Memory) → HasAll small large → (stacks : ℕ) (regs : Regs) (row : Row) (frame : Frame) → frame_of small stacks regs row ≡ Ok frame → frame_of large stacks regs row ≡ Ok frame
+frame_more small large all stacks regs row frame h =
+    bind_more _ _ _ _ frame h (λ at. pointed_to_more small large all regs row at)
+    (λ at h. bind_more _ _ _ _ frame h (λ ra. read_more small large all (ra_address row at) ra)
+    (λ ra h. bind_more _ _ _ _ frame h (λ cfa. caller_sp_more small large all row at cfa)
+    (λ cfa h. bind_more _ _ _ _ frame h (λ bp. caller_bp_more small large all regs row at cfa bp) (λ bp h. h))))
+
+frame_stop : (memory : Memory) (stacks : ℕ) (regs : Regs) (row : Row) (s : Stop) → frame_of memory stacks regs row ≡ Err s → TellsOfWords s
+frame_stop memory stacks regs row s h =
+    bind_stop TellsOfWords _ _ s h (λ t. pointed_to_stop memory regs row t)
+    (λ at h. bind_stop TellsOfWords _ _ s h (λ t. read_stop memory (ra_address row at) t)
     (λ ra h. bind_stop TellsOfWords _ _ s h (λ t. caller_sp_stop memory row at t)
-    (λ cfa h. bind_stop TellsOfWords _ _ s h (λ t. caller_bp_stop memory regs row at cfa t) (λ bp h. rises (nat_lt regs.sp cfa) ra cfa bp h)))
+    (λ cfa h. bind_stop TellsOfWords _ _ s h (λ t. caller_bp_stop memory regs row at cfa t) (λ bp h. rises ((is_switch row && nat_lt 0 stacks) || nat_lt regs.sp cfa) ra cfa bp h))))
   where
     rises : (higher : Bool) (ra cfa bp : ℕ) → cond {A = Result Frame Stop} higher (Ok (record { ra = ra; cfa = cfa; bp = bp })) (Err (NotRising regs.sp cfa)) ≡ Err s → TellsOfWords s
     rises true ra cfa bp h = ok_err h
@@ -127,32 +152,32 @@ abbrev tested : Row → Bool → Bool → Bool → Bool → Result Frame Stop �
 tested row undefined end sp bp frame = cond undefined (Err Undefined) (cond end (Err EndOfStack) (cond sp (Err (BaseUnknown row.sp_reg)) (cond bp (Err (BaseUnknown row.bp_reg)) frame)))
 
 abbrev of_row : Row → Result Frame Stop → Result Frame Stop
-of_row row frame = tested row (row.kind == KIND_UNDEFINED) (row.kind == KIND_END_OF_STACK) (not (row.sp_reg == REG_SP || row.sp_reg == REG_BP)) (not (row.bp_reg == REG_UNDEFINED || (row.bp_reg == REG_PREV_SP || row.bp_reg == REG_BP))) frame
+of_row row frame = tested row (row.kind == KIND_UNDEFINED) (row.kind == KIND_END_OF_STACK) (not (is_followed row)) (not (row.bp_reg == REG_UNDEFINED || (row.bp_reg == REG_PREV_SP || row.bp_reg == REG_BP))) frame
 
-unwound_more : (small large : Memory) → HasAll small large → (regs : Regs) (row : Row) (frame : Frame) → unwound small regs row ≡ Ok frame → unwound large regs row ≡ Ok frame
-unwound_more small large all regs row frame h = go (row.kind == KIND_UNDEFINED) (row.kind == KIND_END_OF_STACK) (not (row.sp_reg == REG_SP || row.sp_reg == REG_BP)) (not (row.bp_reg == REG_UNDEFINED || (row.bp_reg == REG_PREV_SP || row.bp_reg == REG_BP))) h
+unwound_more : (small large : Memory) → HasAll small large → (stacks : ℕ) (regs : Regs) (row : Row) (frame : Frame) → unwound small stacks regs row ≡ Ok frame → unwound large stacks regs row ≡ Ok frame
+unwound_more small large all stacks regs row frame h = go (row.kind == KIND_UNDEFINED) (row.kind == KIND_END_OF_STACK) (not (is_followed row)) (not (row.bp_reg == REG_UNDEFINED || (row.bp_reg == REG_PREV_SP || row.bp_reg == REG_BP))) h
   where
-    go : (a b c d : Bool) → tested row a b c d (frame_of small regs row) ≡ Ok frame → tested row a b c d (frame_of large regs row) ≡ Ok frame
+    go : (a b c d : Bool) → tested row a b c d (frame_of small stacks regs row) ≡ Ok frame → tested row a b c d (frame_of large stacks regs row) ≡ Ok frame
     go true b c d h = err_ok h
     go false true c d h = err_ok h
     go false false true d h = err_ok h
     go false false false true h = err_ok h
-    go false false false false h = frame_more small large all regs row frame h
+    go false false false false h = frame_more small large all stacks regs row frame h
 
-unwound_stop : (small large : Memory) (regs : Regs) (row : Row) (s : Stop) → (TellsOfWords s → ⊥) → unwound small regs row ≡ Err s → unwound large regs row ≡ Err s
-unwound_stop small large regs row s other h = go (row.kind == KIND_UNDEFINED) (row.kind == KIND_END_OF_STACK) (not (row.sp_reg == REG_SP || row.sp_reg == REG_BP)) (not (row.bp_reg == REG_UNDEFINED || (row.bp_reg == REG_PREV_SP || row.bp_reg == REG_BP))) h
+unwound_stop : (small large : Memory) (stacks : ℕ) (regs : Regs) (row : Row) (s : Stop) → (TellsOfWords s → ⊥) → unwound small stacks regs row ≡ Err s → unwound large stacks regs row ≡ Err s
+unwound_stop small large stacks regs row s other h = go (row.kind == KIND_UNDEFINED) (row.kind == KIND_END_OF_STACK) (not (is_followed row)) (not (row.bp_reg == REG_UNDEFINED || (row.bp_reg == REG_PREV_SP || row.bp_reg == REG_BP))) h
   where
-    go : (a b c d : Bool) → tested row a b c d (frame_of small regs row) ≡ Err s → tested row a b c d (frame_of large regs row) ≡ Err s
+    go : (a b c d : Bool) → tested row a b c d (frame_of small stacks regs row) ≡ Err s → tested row a b c d (frame_of large stacks regs row) ≡ Err s
     go true b c d h = h
     go false true c d h = h
     go false false true d h = h
     go false false false true h = h
-    go false false false false h = absurd (other (frame_stop small regs row s h))
+    go false false false false h = absurd (other (frame_stop small stacks regs row s h))
 
 -- A walk over a memory, whose stop tells of no words, is one over a memory that has more.
-pub walk_more : (rows : List PlacedRow) (ranges : List Range) (small large : Memory) → HasAll small large → (next : Bool) (regs : Regs) (frames : List Frame) (s : Stop) → (TellsOfWords s → ⊥) → WalksFrom rows ranges small next regs frames s → WalksFrom rows ranges large next regs frames s
-walk_more rows ranges small large all next regs frames s other (outside out) = outside out
-walk_more rows ranges small large all next regs frames s other (no_row inside none) = no_row inside none
-walk_more rows ranges small large all next regs frames s other (stops {row = row} inside found is) = stops inside found (unwound_stop small large regs row s other is)
-walk_more rows ranges small large all next regs frames s other (goes_on {row = row} {frame = frame} {frames = rest} inside found is walk) =
-    goes_on inside found (unwound_more small large all regs row frame is) (walk_more rows ranges small large all row.signal _ rest s other walk)
+pub walk_more : (rows : List PlacedRow) (ranges : List Range) (small large : Memory) → HasAll small large → (stacks : ℕ) (next : Bool) (regs : Regs) (frames : List Frame) (s : Stop) → (TellsOfWords s → ⊥) → WalksFrom rows ranges small stacks next regs frames s → WalksFrom rows ranges large stacks next regs frames s
+walk_more rows ranges small large all stacks next regs frames s other (outside out) = outside out
+walk_more rows ranges small large all stacks next regs frames s other (no_row inside none) = no_row inside none
+walk_more rows ranges small large all stacks next regs frames s other (stops {row = row} inside found is) = stops inside found (unwound_stop small large stacks regs row s other is)
+walk_more rows ranges small large all stacks next regs frames s other (goes_on {row = row} {frame = frame} {frames = rest} inside found is walk) =
+    goes_on inside found (unwound_more small large all stacks regs row frame is) (walk_more rows ranges small large all (stacks_behind stacks row) row.signal _ rest s other walk)

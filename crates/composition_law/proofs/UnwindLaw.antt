@@ -4,10 +4,11 @@ use Rattle.std.specs.Prelude.{◌++◌, option_map}
 use Rattle.std.specs.Option.{option_and_then}
 use Rattle.std.specs.Int.{from_le_bytes}
 use Rattle.ot_base.specs.declared.row.PlacedRow.{PlacedRow}
-use Rattle.state_defs.specs.declared.state.EndKind.{EndKind}
 use Rattle.state_defs.specs.declared.state.EndKind.TheVariants as kind
+use Rattle.state_defs.specs.Frame.{Ending, AtOutermost, AtEnd, AtRegister}
 use Rattle.state_defs.specs.Region as region
 use Rattle.machine_defs.specs.Machine.{Standing, At, frames, frames_end}
+use Rattle.table_defs.specs.declared.codes.TheConstants.{OTHER_STACKS}
 use Rattle.table_defs.specs.declared.frame.Frame.{Frame}
 use Rattle.table_defs.specs.declared.frame.Regs.{Regs}
 use Rattle.table_defs.specs.declared.frame.Stop as walk
@@ -67,11 +68,12 @@ same_words said text one other h k address =
     (same_bytes one.memory other.memory (λ a. said (sayings (lines text)) one a h.says ∙ sym (said (sayings (lines text)) other a k.says)) address 8)
 
 -- the stops of the machine's walks tell of no words
-stops_known : (end : Option EndKind) (s : walk.Stop) → StopsAs end s → TellsOfWords s → ⊥
-stops_known None s e t = subst TellsOfWords e t
-stops_known (Some kind.EndOfStack) s e t = subst TellsOfWords e t
-stops_known (Some kind.Undefined) s (inl e) t = subst TellsOfWords e t
-stops_known (Some kind.Undefined) s (inr e) t = subst TellsOfWords e t
+stops_known : (end : Ending) (s : walk.Stop) → StopsAs end s → TellsOfWords s → ⊥
+stops_known AtOutermost s e t = subst TellsOfWords e t
+stops_known (AtEnd kind.EndOfStack) s e t = subst TellsOfWords e t
+stops_known (AtEnd kind.Undefined) s (inl e) t = subst TellsOfWords e t
+stops_known (AtEnd kind.Undefined) s (inr e) t = subst TellsOfWords e t
+stops_known (AtRegister reg) s e t = subst TellsOfWords e t
 
 -- The walk from any image of the text is the machine's.
 pub walk_is : WalkIsDetermined → MemoryIsSaid
@@ -91,9 +93,9 @@ walk_is determined said o lists written text unwinds state told other also found
     (subst (λ (ps : List (ℕ × ℕ)). Walks unwinds.rows (ranges_of out ps) (word_at other.memory) other.regs found stop) places walks) in
     let machine = unwinds.walks told.bases (ranges_of out image.places) told.holds.placement told.holds.begin (At state) told.run in
     let there : Walks unwinds.rows (ranges_of out image.places) (word_at other.memory) start (map walk_frame (frames state)) machine.0 =
-    walk_more unwinds.rows (ranges_of out image.places) (λ address. region.word_at state.core.region address) (word_at other.memory)
+    walk_more unwinds.rows (ranges_of out image.places) (λ address. region.word_at state.core.memory address) (word_at other.memory)
     (λ address word is. same_words said text other image also told.is_image address ∙ told.holds.memory address word is)
-    true start (map walk_frame (frames state)) machine.0 (stops_known (frames_end state) machine.0 machine.2) machine.1 in
+    OTHER_STACKS true start (map walk_frame (frames state)) machine.0 (stops_known (frames_end state) machine.0 machine.2) machine.1 in
     let same = determined unwinds.rows (ranges_of out image.places) (word_at other.memory) start found (map walk_frame (frames state)) stop machine.0 here there in
     (subst (StopsAs (frames_end state)) (sym same.1) machine.2, same.0)
 

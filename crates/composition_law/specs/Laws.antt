@@ -58,12 +58,12 @@ DumpTellsTheRows =
     → Dumps written out out' answer
     → Prints status.Done (rows_text (with_tables_object o.elf unwinds.rows) unwinds.rows) out out' answer ⊎ Concludes stop.NoMemory out out' answer
 
--- An image holds a state of the machine: its registers are those of the state, each word of the state's stack stands in its
+-- An image holds a state of the machine: its registers are those of the state, each word of the state's stacks stands in its
 -- memory, and it places the text sections of the object, by the numbers and sizes that they have in the object with its
 -- tables, where the machine has them.
 pub record IsImageOf (o with_tables : Elf) (p : Program) (bases : Bases) (state : Standing) (image : StackImage) : Type 0 where
   pub regs : image.regs ≡ registers_of p bases state
-  pub memory : (address word : ℕ) → region.word_at state.core.region address ≡ Some word → word_at image.memory address ≡ Some word
+  pub memory : (address word : ℕ) → region.word_at state.core.memory address ≡ Some word → word_at image.memory address ≡ Some word
   pub placement : IsPlacement (texts_of o) (ranges_of with_tables image.places)
   pub begin : BeginAt bases (ranges_of with_tables image.places)
 

@@ -1,14 +1,15 @@
 -- The frame rules of an object's rows undo the frames of its program.
-use Rattle.std.proofs.Common.{◌≡◌, ◌≢◌, ℕ, ◌+◌, ◌-◌, ◌<◌, ◌≤◌, ◌⊎◌, true, false, List, [], ◌∷◌, map, length, Option, Some, None, Contains, refl, sym, ap, ◌∙◌, subst, inl, inr, arith}
-use Rattle.std.specs.Prelude.{nat_le, nat_lt}
+use Rattle.std.proofs.Common.{◌≡◌, ◌≢◌, ℕ, ◌+◌, ◌-◌, ◌<◌, ◌≤◌, ◌⊎◌, ◌||◌, true, false, List, [], ◌∷◌, map, length, Option, Some, None, Contains, refl, sym, ap, ◌∙◌, subst, inl, inr, arith}
+use Rattle.std.specs.Prelude.{◌==◌, nat_le, nat_lt}
 use Rattle.std.specs.List.{range_with_len}
-use Rattle.std.proofs.lemmas.Bool.{and_parts, leb-true, ltb-true}
+use Rattle.std.proofs.lemmas.Bool.{and_parts, eqb-true, leb-true, ltb-true}
+use Rattle.std.proofs.lemmas.Bool.Decides.{nat_tests}
 use Rattle.std.proofs.lemmas.List.Elements.{All-contains}
 use Rattle.std.proofs.lemmas.List.Sorted.{Contains-permutation, IsPermutation-sym}
 use Rattle.std.proofs.lemmas.Option.{slice_get-get_or}
 use Rattle.ot_base.specs.NameLists.{NameLists}
 use Rattle.ot_base.specs.Section.{TextSection}
-use Rattle.ot_base.specs.declared.codes.TheConstants.{KIND_REGS, KIND_REGS_PARTIAL}
+use Rattle.ot_base.specs.declared.codes.TheConstants.{KIND_CALL, KIND_END_OF_STACK, KIND_UNDEFINED, REG_BP, REG_PREV_SP, REG_SP, REG_UNDEFINED}
 use Rattle.ot_base.specs.declared.place.Place.{Place}
 use Rattle.ot_base.specs.declared.row.PlacedRow.{PlacedRow}
 use Rattle.ot_base.specs.declared.row.Row.{Row}
@@ -18,13 +19,14 @@ use Rattle.flow_defs.specs.Code.{text_numbers}
 use Rattle.flow_defs.specs.Coded.{Coded}
 use Rattle.flow_defs.specs.Program.{graph_of, program_of, returning_graph, text_sections_of, uncopied_program}
 use Rattle.state_defs.specs.Row.{row_of, zero_row}
-use Rattle.state_defs.specs.declared.state.BpHome.TheVariants.{Same, Saved}
 use Rattle.state_defs.specs.declared.state.EndKind.TheVariants.{Undefined, EndOfStack}
 use Rattle.state_defs.specs.declared.state.State.{State}
-use Rattle.state_defs.specs.declared.state.State.TheVariants.{Live, Ended, Regs}
+use Rattle.state_defs.specs.declared.state.State.TheVariants.{Live, Ended, Regs, Poised, Switched, Drap}
+use Rattle.state_defs.specs.declared.state.Phase.TheVariants.{Bare, Pushed, Framed, Homed}
 use Rattle.machine_defs.specs.Machine.{At, Bases, Machine, Wrecked, frames_end}
 use Rattle.machine_defs.specs.Program.{Program}
 use Rattle.machine_defs.specs.Rows.{place_in, row_at, rows_of, section_rows}
+use Rattle.table_defs.specs.declared.codes.TheConstants.{OTHER_STACKS}
 use Rattle.table_defs.specs.declared.range.Range.{Range}
 use Rattle.table_defs.specs.Lookup.{find_row}
 use Rattle.table_defs.specs.Placed.{IsPlacedBy}
@@ -43,12 +45,12 @@ use Rattle.object_check.specs.Outcome.{HasRows}
 use Rattle.object_check.specs.Unwinding.{RowsUnwind}
 use Rattle.object_check.proofs.RowForms.{of_row}
 use Rattle.object_check.proofs.RowOrder.{rows_rise, section_own, sections_rise}
-use Rattle.eh_frame.specs.RowFrames.{rule_by_rows, rule_of_last, rule_of_row}
+use Rattle.eh_frame.specs.RowFrames.{has_frame_rule, rule_by_rows, rule_of_last, rule_of_row}
 use Rattle.eh_frame.specs.RuleAt.{HasRule}
 use Rattle.eh_frame.specs.declared.rule.CfaRule.{CfaRule}
 use Rattle.eh_frame.specs.declared.rule.CfaRule.TheVariants as rule
 use Rattle.eh_frame.specs.Framed.{FollowsRows, framed_object}
-use Rattle.objtool_cli.specs.Undone.{HasNoRegs, RulesUndo, UndoesToFrames}
+use Rattle.objtool_cli.specs.Undone.{HasFrameRules, RulesUndo, UndoesToFrames}
 use Rattle.objtool_cli.proofs.Begun.{all_same, from_row, from_start, in_force, left_same}
 use Rattle.objtool_cli.proofs.LastRule.{rows_of_section, stays_rule}
 use Rattle.objtool_cli.proofs.Undoing.{IsCallRow, IsLookedUp, walk_undone}
@@ -62,19 +64,37 @@ IsZeroOrKnown row = (row ≡ zero_row) ⊎ (row.kind ≢ 0)
 zero_or_known : (s : State) → IsZeroOrKnown (row_of s)
 zero_or_known s = elim (known_or_not s) [ inl k ↦ inl k.0 | inr k ↦ inr k ]
 
--- a row that is one of a call's frame, unless it tells of saved registers
-abbrev IsCallUnlessRegs : Row → Type 0
-IsCallUnlessRegs row = row.kind ≢ KIND_REGS → row.kind ≢ KIND_REGS_PARTIAL → IsCallRow row
+-- a row of a call's frame leads to a return address
+abbrev IsToReturn : Row → Type 0
+IsToReturn row = row.kind ≡ KIND_CALL → row.signal ≡ false
 
-state_call : (s : State) → IsCallUnlessRegs (row_of s)
-state_call (Live depth None Same) = λ r q. record { kind = omega arith; sp_reg = λ _. inr refl; bp_reg = λ _. inl refl; signal = λ _. refl }
-state_call (Live depth None (Saved at)) = λ r q. record { kind = omega arith; sp_reg = λ _. inr refl; bp_reg = λ _. inr refl; signal = λ _. refl }
-state_call (Live depth (Some base) Same) = λ r q. record { kind = omega arith; sp_reg = λ _. inl refl; bp_reg = λ _. inl refl; signal = λ _. refl }
-state_call (Live depth (Some base) (Saved at)) = λ r q. record { kind = omega arith; sp_reg = λ _. inl refl; bp_reg = λ _. inr refl; signal = λ _. refl }
-state_call (Ended Undefined) = λ r q. record { kind = omega arith; sp_reg = λ e. absurd (omega (arith, e)); bp_reg = λ e. absurd (omega (arith, e)); signal = λ e. absurd (omega (arith, e)) }
-state_call (Ended EndOfStack) = λ r q. record { kind = omega arith; sp_reg = λ e. absurd (omega (arith, e)); bp_reg = λ e. absurd (omega (arith, e)); signal = λ e. absurd (omega (arith, e)) }
-state_call (Regs true depth) = λ r q. absurd (r refl)
-state_call (Regs false depth) = λ r q. absurd (q refl)
+to_return : (s : State) → IsToReturn (row_of s)
+to_return (Live depth fp home copy) = λ _. refl
+to_return (Ended kind) = λ _. refl
+to_return (Regs true depth trap) = λ e. absurd (omega (arith, e))
+to_return (Regs false depth trap) = λ e. absurd (omega (arith, e))
+to_return (Poised depth fp home) = λ _. refl
+to_return (Switched depth home fp) = λ _. refl
+to_return (Drap reg (Bare depth)) = λ _. refl
+to_return (Drap reg (Pushed size)) = λ _. refl
+to_return (Drap reg (Framed size)) = λ _. refl
+to_return (Drap reg (Homed size home)) = λ _. refl
+
+-- what a row with a frame rule is
+rule_parts : (row : Row) → has_frame_rule row ≡ true → (row.kind ≡ KIND_CALL) × ((row.sp_reg ≡ REG_BP) ⊎ (row.sp_reg ≡ REG_SP)) × ((row.bp_reg ≡ REG_UNDEFINED) ⊎ (row.bp_reg ≡ REG_PREV_SP))
+rule_parts row h =
+    let one = and_parts (row.kind == KIND_CALL) _ h in
+    let two = and_parts (row.sp_reg == REG_BP || row.sp_reg == REG_SP) _ one.1 in
+    (eqb-true row.kind KIND_CALL one.0, either row.sp_reg REG_BP REG_SP two.0, either row.bp_reg REG_UNDEFINED REG_PREV_SP two.1)
+  where
+    either : (n a b : ℕ) → (n == a || n == b) ≡ true → (n ≡ a) ⊎ (n ≡ b)
+    either n a b e = grind (arith, nat_tests)
+
+-- a row that says that nothing is known, that the stack ends, or a frame rule
+known_call : (row : Row) → IsToReturn row → (row.kind ≡ KIND_UNDEFINED) ⊎ ((row.kind ≡ KIND_END_OF_STACK) ⊎ (has_frame_rule row ≡ true)) → IsCallRow row
+known_call row leads (inl is) = record { kind = omega (arith, is); sp_reg = λ e. absurd (omega (arith, is, e)); bp_reg = λ e. absurd (omega (arith, is, e)); signal = leads }
+known_call row leads (inr (inl is)) = record { kind = omega (arith, is); sp_reg = λ e. absurd (omega (arith, is, e)); bp_reg = λ e. absurd (omega (arith, is, e)); signal = leads }
+known_call row leads (inr (inr has)) = let parts = rule_parts row has in let is = parts.0 in record { kind = omega (arith, is); sp_reg = λ _. parts.1; bp_reg = λ _. parts.2; signal = leads }
 
 zero_call : IsCallRow zero_row
 zero_call = record { kind = omega arith; sp_reg = λ e. absurd (omega (arith, e)); bp_reg = λ e. absurd (omega (arith, e)); signal = λ e. absurd (omega (arith, e)) }
@@ -85,7 +105,7 @@ zero_call = record { kind = omega arith; sp_reg = λ e. absurd (omega (arith, e)
 record IsFoundAt (rows : List PlacedRow) (ranges : List Range) (address : ℕ) (said : CfaRule) : Type 0 where
   row : Row
   says : said ≡ rule_of_row row
-  kind : IsCallUnlessRegs row
+  leads : IsToReturn row
   listed : (row ≡ zero_row) ⊎ ((x : PlacedRow) × Contains rows x × (x.row ≡ row))
   found : (find_row rows ranges address ≡ Some row) ⊎ ((row ≡ zero_row) × (find_row rows ranges address ≡ None))
 
@@ -133,7 +153,7 @@ module _ (found : FoundIsLast) (none : NoneFoundIsNone) (p : Program) (states : 
       record {
         row = at.0;
         says = own_rule text off c ∙ stays_rule text off (rows_left (row_at p states) text) at.0 inside (rows_rise (row_at p states) text) stays;
-        kind = of_force IsCallUnlessRegs (λ a b. zero_call) (λ q s e. state_call s) (place_in text (at.1).from) at.0 (at.1).begins;
+        leads = of_force IsToReturn (λ _. refl) (λ q s e. to_return s) (place_in text (at.1).from) at.0 (at.1).begins;
         listed = elim stays [
           | inl k ↦ inr (k.0, in_flat_map (section_rows p states) p.texts text k.0 c (in_ended text (rows_left (row_at p states) text) k.0 k.1.listed), k.2)
           | inr k ↦ inl k.0
@@ -167,7 +187,7 @@ module _ (found : FoundIsLast) (none : NoneFoundIsNone) (p : Program) (states : 
       }
 
   -- what is known there, by an object that follows the rows
-  looked_up : (o : Elf) → ((text : TextSection) (off : ℕ) → Contains p.texts text → off < text.size → HasRule o (place_in text off) (rule_by_rows (rows_of p states) text.sec off)) → HasNoRegs (rows_of p states)
+  looked_up : (o : Elf) → ((text : TextSection) (off : ℕ) → Contains p.texts text → off < text.size → HasRule o (place_in text off) (rule_by_rows (rows_of p states) text.sec off)) → HasFrameRules (rows_of p states)
       → (address : ℕ) → is_inside ranges address ≡ true → IsLookedUp (rows_of p states) o ranges address
   looked_up o follows calls address inside =
       let w = within address inside in
@@ -189,8 +209,9 @@ module _ (found : FoundIsLast) (none : NoneFoundIsNone) (p : Program) (states : 
       call f = elim f.listed [
         | inl zero ↦ subst IsCallRow (sym zero) zero_call
         | inr (x, c, e) ↦
-            let kinds = All-contains (λ (y : PlacedRow). (y.row.kind ≢ KIND_REGS) × (y.row.kind ≢ KIND_REGS_PARTIAL)) (rows_of p states) x calls c in
-            f.kind (λ is. kinds.0 (ap (λ (r : Row). r.kind) e ∙ is)) (λ is. kinds.1 (ap (λ (r : Row). r.kind) e ∙ is))
+            known_call f.row f.leads
+            (subst (λ (r : Row). (r.kind ≡ KIND_UNDEFINED) ⊎ ((r.kind ≡ KIND_END_OF_STACK) ⊎ (has_frame_rule r ≡ true))) e
+            (All-contains (λ (y : PlacedRow). (y.row.kind ≡ KIND_UNDEFINED) ⊎ ((y.row.kind ≡ KIND_END_OF_STACK) ⊎ (has_frame_rule y.row ≡ true))) (rows_of p states) x calls c))
       ]
 
       found_of : {said : CfaRule} → IsFoundAt (rows_of p states) ranges address said
@@ -243,7 +264,7 @@ follows_in o lists rows file follows text off c inside =
 undone_at : (p : Program) (rows : List PlacedRow) (o : Elf) (bases : Bases) (ranges : List Range)
     → ((address : ℕ) → is_inside ranges address ≡ true → IsLookedUp rows o ranges address) → (m : Machine) → WalksToFrames p rows bases ranges m → UndoesToFrames p o bases ranges m
 undone_at p rows o bases ranges look Wrecked h = h
-undone_at p rows o bases ranges look (At s) (stop, walk, ends) = walk_undone rows o ranges _ look true _ _ stop (frames_end s) walk ends
+undone_at p rows o bases ranges look (At s) (stop, walk, ends) = walk_undone rows o ranges _ look OTHER_STACKS true _ _ stop (frames_end s) walk ends
 
 of_states : FoundIsLast → NoneFoundIsNone → (o : Coded) (lists : NameLists) (states : ℕ → Option State) (file : List ℕ) → RowsUnwind o lists (rows_of (program_of o lists) states) → FollowsRows o.elf (rows_of (program_of o lists) states) file → RulesUndo o lists (rows_of (program_of o lists) states)
 of_states found none o lists states file unwind follows = λ calls bases ranges placed m run.

@@ -1,14 +1,14 @@
 -- How call frames are undone by frame rules (DWARF 4, section 6.4.4), and when that gives the frames of the machine.
-use Rattle.std.specs.Prelude.{◌≡◌, ◌≢◌, ℕ, ◌+◌, ◌<◌, Bool, true, false, ℤ, List, [], ◌∷◌, map, All, Contains, Option, Some, None}
+use Rattle.std.specs.Prelude.{◌≡◌, ◌⊎◌, ℕ, ◌+◌, ◌<◌, Bool, true, false, ℤ, List, [], ◌∷◌, map, All, Contains, Option, Some, None}
 use Rattle.ot_base.specs.Address.{down}
 use Rattle.ot_base.specs.NameLists.{NameLists}
-use Rattle.ot_base.specs.declared.codes.TheConstants.{KIND_REGS, KIND_REGS_PARTIAL}
+use Rattle.ot_base.specs.declared.codes.TheConstants.{KIND_UNDEFINED, KIND_END_OF_STACK}
 use Rattle.ot_base.specs.declared.place.Place.{Place}
 use Rattle.ot_base.specs.declared.row.PlacedRow.{PlacedRow}
 use Rattle.elf_objects.specs.Elf.{Elf}
 use Rattle.flow_defs.specs.Coded.{Coded}
 use Rattle.flow_defs.specs.Program.{program_of}
-use Rattle.state_defs.specs.declared.state.EndKind.{EndKind}
+use Rattle.state_defs.specs.Frame.{Ending, AtOutermost, AtEnd, AtRegister}
 use Rattle.state_defs.specs.Region.{word_at}
 use Rattle.machine_defs.specs.Machine.{Bases, Machine, Wrecked, At, frames, frames_end}
 use Rattle.machine_defs.specs.Program.{Program}
@@ -23,6 +23,7 @@ use Rattle.table_defs.specs.Placement.{is_inside}
 use Rattle.table_defs.specs.Walk.{Memory, lookup_address, offset_by, registers_of}
 use Rattle.table_defs.specs.Walks as walks
 use Rattle.table_defs.specs.Walks.{walk_frame}
+use Rattle.eh_frame.specs.RowFrames.{has_frame_rule}
 use Rattle.eh_frame.specs.RuleAt.{HasRule}
 use Rattle.eh_frame.specs.declared.rule.CfaReg.{CfaReg}
 use Rattle.eh_frame.specs.declared.rule.CfaReg.TheVariants.{Rsp, Rbp}
@@ -73,29 +74,30 @@ pub data UndoesFrom (o : Elf) (ranges : List Range) (memory : Memory) : Bool →
       → UndoesFrom o ranges memory false (registers_of frame) frames stop
       → UndoesFrom o ranges memory next regs (frame ∷ frames) stop
 
--- how that ends where the frames end so: outside the program, where they go down to the outermost one; else where a hint ended the
--- stack
-abbrev pub end_of : Option EndKind → Stop
-end_of None = Outside
-end_of (Some kind) = Undefined
+-- How that ends where the frames end so: outside the program, where they go down to the outermost one; else where a hint ended the
+-- stack, or no rule tells the next frame.
+abbrev pub end_of : Ending → Stop
+end_of AtOutermost = Outside
+end_of (AtEnd kind) = Undefined
+end_of (AtRegister reg) = Undefined
 
 -- The machine's stack isn't wrecked, and undoing its frames by the rules gives exactly the frames of its shadow call stack.
 abbrev pub UndoesToFrames : Program → Elf → Bases → List Range → Machine → Type 0
 UndoesToFrames p o bases ranges Wrecked = ⊥
 UndoesToFrames p o bases ranges (At s) =
-    UndoesFrom o ranges (λ address. word_at s.core.region address) true (walks.registers_of p bases s) (map walk_frame (frames s)) (end_of (frames_end s))
+    UndoesFrom o ranges (λ address. word_at s.core.memory address) true (walks.registers_of p bases s) (map walk_frame (frames s)) (end_of (frames_end s))
 
--- no row tells of saved registers
-abbrev pub HasNoRegs : List PlacedRow → Type 0
-HasNoRegs rows = All (λ placed. (placed.row.kind ≢ KIND_REGS) × (placed.row.kind ≢ KIND_REGS_PARTIAL)) rows
+-- each row tells a frame by a frame rule, or says that nothing is known or that the stack ends
+abbrev pub HasFrameRules : List PlacedRow → Type 0
+HasFrameRules rows = All (λ placed. (placed.row.kind ≡ KIND_UNDEFINED) ⊎ ((placed.row.kind ≡ KIND_END_OF_STACK) ⊎ (has_frame_rule placed.row ≡ true))) rows
 
--- Where no row tells of saved registers: for every placement of the text sections and every state of every run of the stack machine on
+-- Where each row that tells a frame has a frame rule: for every placement of the text sections and every state of every run of the stack machine on
 -- the object's program, undoing frames by the rules that are read of the object with the call frame information of these rows gives
 -- exactly the frames of the machine's shadow call stack, innermost first, down to the outermost frame or to the first place whose hint
 -- ended the stack.
 abbrev pub RulesUndo : Coded → NameLists → List PlacedRow → Type 0
 RulesUndo o lists rows =
-    HasNoRegs rows
+    HasFrameRules rows
     → (bases : Bases) (ranges : List Range)
     → IsPlacedBy (program_of o lists) bases ranges
     → (m : Machine)

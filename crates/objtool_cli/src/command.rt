@@ -410,12 +410,12 @@ pub fn run<F: Files, S: Sink>(alloc: Global, words: &[String], files: &mut F, ou
 
     // Where `cfi` is done and the files tell their content, OUT holds IN with exactly the two frame sections of its
     // program's rows and the section symbols that these need; and the frame rule that is read of OUT at every place of
-    // a text section is that of the last row at or below it. Where no row tells of saved registers, then for every
-    // placement of the text sections of IN and every state of every run of the stack machine on IN, undoing frames by
-    // the rules that are read of OUT gives exactly the frames of the machine's shadow call stack, innermost first, down
-    // to the outermost frame or to the first place whose unwind hint ends the stack. An input that gets call frame
-    // information isn't refused; and one whose program breaks a rule is neither refused nor done: its warnings are
-    // answered, unless a fault or want of memory is.
+    // a text section is that of the last row at or below it. Where each row that tells a frame has a frame rule, then
+    // for every placement of the text sections of IN and every state of every run of the stack machine on IN, undoing
+    // frames by the rules that are read of OUT gives exactly the frames of the machine's shadow call stack, innermost
+    // first, down to the outermost frame or to the first place whose unwind hint ends the stack. An input that gets
+    // call frame information isn't refused; and one whose program breaks a rule is neither refused nor done: its
+    // warnings are answered, unless a fault or want of memory is.
     ensures frames { (input output : List ℕ) (opcodes : Map) (names : Option (List ℕ)) → result ≡ Status.Done
         → meaning (map string_bytes words.now) ≡ Ok (cfi input output opcodes names)
         → OutTellsFrames opcodes input output names (F.content files.old) (F.content files.new) }

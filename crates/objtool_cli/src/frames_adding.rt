@@ -177,9 +177,9 @@ pub fn cfi<F: Files, S: Sink>(
         (record { written = S.written out.new; faults = S.faults out.new }) result }
     // Where it is done and the files tell their content, OUT holds IN with exactly the two frame sections of its program's rows and the
     // section symbols that these need; and the frame rule that is read of OUT at every place of a text section is that of the last row
-    // at or below it. Where no row tells of saved registers, then for every placement of the text sections of IN and every state of
-    // every run of the stack machine on IN, undoing frames by the rules that are read of OUT gives exactly the frames of the machine's
-    // shadow call stack, innermost first, down to the outermost frame or to the first place whose unwind hint ends the stack.
+    // at or below it. Where each row that tells a frame has a frame rule, then for every placement of the text sections of IN and every
+    // state of every run of the stack machine on IN, undoing frames by the rules that are read of OUT gives exactly the frames of the
+    // machine's shadow call stack, innermost first, down to the outermost frame or to the first place whose unwind hint ends the stack.
     ensures frames { result ≡ Status.Done
         → OutTellsFrames asked.entry.map asked.entry.input.now asked.entry.output.now (option_map (λ file. file.now) asked.entry.names) (F.content files.old) (F.content files.new) }
     // An input that gets call frame information, with a names file in order where one is given, is refused nowhere: it is done, unless a
