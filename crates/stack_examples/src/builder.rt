@@ -34,11 +34,12 @@ fn previous(lines: &[Line], line: Line) -> Option<u32> {
 }
 
 /// The point of a line, without what it goes to.
-fn point(alloc: Global, lines: &[Line], line: Line) -> ModelPoint {
-    ModelPoint {
+fn point(alloc: Global, lines: &[Line], line: Line) -> Result<ModelPoint, AllocError> {
+    Ok(ModelPoint {
         insn: Insn {
             len: line.len,
             op: line.op,
+            writes: line.writes,
         },
         place: line.place(),
         address: Place {
@@ -61,10 +62,11 @@ fn point(alloc: Global, lines: &[Line], line: Line) -> ModelPoint {
         names: line.names,
         is_marked_call: line.is_marked_call,
         is_dead_end: line.is_dead_end,
+        held: line.held.to_vec(alloc)?,
         marks: line.marks,
         after: Vec::new(alloc),
         calls_fentry: false,
-    }
+    })
 }
 
 /// The points where control that comes to a place may stand.
@@ -123,7 +125,7 @@ fn unlinked(alloc: Global, lines: &[Line], table: &Table) -> Result<Program, All
     let mut without_size = Vec::new(alloc);
     let mut size = 0;
     for line in lines {
-        points.push(point(alloc, lines, *line))?;
+        points.push(point(alloc, lines, *line)?)?;
         if line.is_without_size {
             without_size.push(line.place())?;
         }

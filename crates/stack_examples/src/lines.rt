@@ -28,6 +28,10 @@ pub enum With {
     OfNone,
     /// Its function isn't checked.
     Unchecked,
+    /// It may write these general registers: bit r tells register r.
+    Writes(u16),
+    /// These registers are held there, as copies of rsp.
+    Holds(&'static [u8]),
     /// Control comes to its section by patching alone.
     InPatches,
     /// It runs in loose code.
@@ -79,6 +83,8 @@ pub struct Line {
     pub off: u64,
     pub len: u8,
     pub op: Op,
+    pub writes: u16,
+    pub held: &'static [u8],
     pub function: Option<u32>,
     pub owner: Option<u32>,
     pub is_unchecked: bool,
@@ -143,6 +149,8 @@ fn insn(off: u64, len: u8, op: Op) -> Line
         off,
         len,
         op,
+        writes: 0,
+        held: &[],
         function: Some(0),
         owner: Some(0),
         is_unchecked: false,
@@ -196,6 +204,14 @@ impl Line {
             owner: None,
             ..self
         }
+    }
+
+    fn writes(self, writes: u16) -> Line {
+        Line { writes, ..self }
+    }
+
+    fn holds(self, held: &'static [u8]) -> Line {
+        Line { held, ..self }
     }
 
     fn unchecked(self) -> Line {
@@ -313,6 +329,8 @@ impl Line {
             With::Of(function) => self.of(function),
             With::OfPart(function) => self.of_part(function),
             With::OfNone => self.of_none(),
+            With::Writes(writes) => self.writes(writes),
+            With::Holds(held) => self.holds(held),
             With::Unchecked => self.unchecked(),
             With::InPatches => self.in_patches(),
             With::Loose => self.loose(),
