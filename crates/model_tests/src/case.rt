@@ -1,9 +1,9 @@
 //! The tables of programs, and what is expected of them. They are data, since each call in a test's body
 //! takes longer to prove; `expect` reads them.
 
-use machine_model::{Frame, Slot, Start, Wreck};
+use machine_model::{Frame, Held, Registers, Slot, Start, Told, Wreck};
 use ot_base::Options;
-use program_model::Store;
+use program_model::{Stack as StackPlace, Store};
 use stack_examples::lines::Table;
 use state_defs::{BpHome, Depth, EndKind, State};
 use table_defs::{Frame as WalkedFrame, Stop};
@@ -12,6 +12,12 @@ use table_defs::{Frame as WalkedFrame, Stop};
 pub const LO: u64 = 0x8000;
 
 const HI: u64 = 0x8100;
+
+/// The stack on which runs start.
+pub const FIRST_STACK: StackPlace = StackPlace { lo: LO, hi: HI };
+
+/// The general registers beside rsp and rbp.
+pub const REGISTERS: Registers = [0; 16];
 
 /// Where the caller outside goes on, and its rbp.
 pub const OUTSIDE: u64 = 0xA000_0000;
@@ -30,12 +36,14 @@ pub const ENTERED: State = State::Live {
     depth: Depth::Known(8),
     fp: None,
     bp: BpHome::Same,
+    copy: None,
 };
 
 pub const PUSHED: State = State::Live {
     depth: Depth::Known(16),
     fp: None,
     bp: BpHome::Same,
+    copy: None,
 };
 
 /// Behind two pushes.
@@ -43,6 +51,7 @@ pub const PUSHED_2: State = State::Live {
     depth: Depth::Known(24),
     fp: None,
     bp: BpHome::Same,
+    copy: None,
 };
 
 /// rbp was pushed first.
@@ -50,6 +59,7 @@ pub const SAVED: State = State::Live {
     depth: Depth::Known(16),
     fp: None,
     bp: BpHome::Saved(16),
+    copy: None,
 };
 
 /// And points at its saved word, with nothing below that, and with 16 bytes below that.
@@ -57,12 +67,14 @@ pub const FRAMED: State = State::Live {
     depth: Depth::Known(16),
     fp: Some(16),
     bp: BpHome::Saved(16),
+    copy: None,
 };
 
 pub const DEEPER: State = State::Live {
     depth: Depth::Known(32),
     fp: Some(16),
     bp: BpHome::Saved(16),
+    copy: None,
 };
 
 /// A hint ended the stack.
@@ -144,7 +156,13 @@ pub const OUTERMOST: Frame = Frame {
     ra: OUTSIDE,
     cfa: HI,
     bp: RBP,
+    registers: REGISTERS,
+    stack: FIRST_STACK,
+    held: Held::Nothing,
     slot: Slot::Unsaved,
+    cell: None,
+    told: Told::Untold,
+    trap: false,
     ac: false,
     ended_caller: None,
     mark_caller: None,

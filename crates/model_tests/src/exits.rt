@@ -81,6 +81,7 @@ const JUMP_OUT: Broken = Broken {
 pub const GATE: With = With::Hint(HintState::Set(State::Regs {
     full: false,
     depth: 0,
+    trap: false,
 }));
 
 const GATE_JUMPS: Broken = Broken {

@@ -1,14 +1,17 @@
 //! What is expected of a program: its states, its warnings, and how it runs.
 
 use crate::case::{
-    Accepted, Broken, End, From, How, LO, NO_OPTIONS, RBP, Run, Stack, Warned, Wrong,
+    Accepted, Broken, End, FIRST_STACK, From, How, LO, NO_OPTIONS, RBP, REGISTERS, Run, Stack,
+    Warned, Wrong,
 };
 use machine_defs::{Edge, EdgeKind};
 use machine_model::{
-    Anything, Choice, Core, InterruptWords, Machine, Standing, next_state, started,
+    Anything, Choice, Core, Ending, Held, InterruptWords, Machine, Standing, next_state, started,
 };
+use operation_defs::DrapRegister;
+use ot_base::codes::{REG_R10, REG_R13};
 use ot_base::{Options, Place, PlacedRow, Warning};
-use program_model::{Kept, Program, Region, rows, walk, warnings};
+use program_model::{Kept, Memory, Program, Region, Stack as StackPlace, rows, walk, warnings};
 use stack_examples::builder::program;
 use stack_examples::lines::Table;
 use state_defs::EndKind;
@@ -26,6 +29,9 @@ const ANYTHING: Anything<'static> = Anything {
     word: 0xDD,
     rsp: 0x8080,
     rbp: 0xBB,
+    registers: REGISTERS,
+    cell: 0,
+    other: FIRST_STACK,
     ac: false,
 };
 
@@ -75,10 +81,22 @@ impl How {
             }
             How::Taken => goes(to, EdgeKind::Taken, ANYTHING),
             How::Table => goes(to, EdgeKind::Table, ANYTHING),
-            How::Faults(stores) => Choice::Faults { to, stores },
+            How::Faults(stores) => Choice::Faults {
+                to,
+                stores,
+                registers: REGISTERS,
+            },
             How::Calls => Choice::CallsIn { entry: to, at: to },
-            How::CallsOut(stores) => Choice::CallsOut { to, stores },
-            How::Returns(stores) => Choice::Returns { to, stores },
+            How::CallsOut(stores) => Choice::CallsOut {
+                to,
+                stores,
+                registers: REGISTERS,
+            },
+            How::Returns(stores) => Choice::Returns {
+                to,
+                stores,
+                registers: REGISTERS,
+            },
             How::TailCalls => Choice::TailCalls { to },
             How::IsInterrupted => interrupted(to, to),
             How::ComesTo(gate) => interrupted(gate, to),
@@ -116,19 +134,26 @@ fn checked(alloc: Global, program: Program) -> Result<Example, AllocError> {
 
 /// Where the machine stands before a run.
 fn standing(alloc: Global, from: &From) -> Result<Standing, AllocError> {
-    let mut region = Region {
+    let region = Region {
         lo: LO,
         bytes: vec![in alloc; 0u8; from.stack.size]?,
     };
+    let mut memory = Memory {
+        stacks: vec![in alloc; region]?,
+    };
     for (address, word) in from.stack.words {
-        region.write_word(*address, *word);
+        memory.write_word(*address, *word);
     }
+    let end = LO.wrapping_add(from.stack.size as u64);
     Ok(Standing {
         point: from.point,
         core: Core {
             rsp: from.rsp,
             rbp: from.stack.rbp,
-            region,
+            registers: REGISTERS,
+            memory,
+            stack: StackPlace { lo: LO, hi: end },
+            held: Held::Nothing,
             ac: false,
             shadow: from.stack.shadow.to_vec(alloc)?,
         },
@@ -149,9 +174,11 @@ fn frames_of(alloc: Global, s: &Standing) -> Result<(Vec<WalkedFrame>, Stop), Al
         })
         .collect(alloc)?;
     let stop = match s.frames_end() {
-        None => Stop::Outside,
-        Some(EndKind::Undefined) => Stop::Undefined,
-        Some(EndKind::EndOfStack) => Stop::EndOfStack,
+        Ending::AtOutermost => Stop::Outside,
+        Ending::AtEnd(EndKind::Undefined) => Stop::Undefined,
+        Ending::AtEnd(EndKind::EndOfStack) => Stop::EndOfStack,
+        Ending::AtRegister(DrapRegister::R10) => Stop::BaseUnknown { reg: REG_R10 },
+        Ending::AtRegister(DrapRegister::R13) => Stop::BaseUnknown { reg: REG_R13 },
     };
     Ok((frames, stop))
 }
@@ -190,7 +217,7 @@ impl Example {
             bp: s.core.rbp,
         };
         let rows = self.rows.as_slice();
-        let walked = walk(alloc, rows, &self.placement, &s.core.region, regs)?;
+        let walked = walk(alloc, rows, &self.placement, &s.core.memory, regs)?;
         Ok((walked.frames, walked.stop))
     }
 

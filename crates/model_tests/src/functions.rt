@@ -99,6 +99,7 @@ const SAVED_DEEPER: State = State::Live {
     depth: Depth::Known(32),
     fp: None,
     bp: BpHome::Saved(16),
+    copy: None,
 };
 
 /// 55 48 83 EC 10 75 05 48 8D 6C 24 08 48 83 C4 10 5D C3: push rbp; sub 16 from rsp; jne over a lea of

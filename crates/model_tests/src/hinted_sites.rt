@@ -12,11 +12,13 @@ use table_defs::Frame;
 const ERROR: State = State::Regs {
     full: false,
     depth: 8,
+    trap: false,
 };
 
 const WORDS: State = State::Regs {
     full: false,
     depth: 0,
+    trap: false,
 };
 
 /// Called from outside at the function behind the gate.

@@ -2,8 +2,8 @@
 //! back; at a gate with an error code; one that came outside; and an iret to itself.
 
 use crate::case::{
-    Accepted, CALLED, CALLER, ENTERED, FRAMED, From, How, OUTSIDE, PUSHED, PUSHED_2, RBP, Run,
-    SAVED, Stack,
+    Accepted, CALLED, CALLER, ENTERED, FRAMED, From, How, OUTERMOST, OUTSIDE, PUSHED, PUSHED_2,
+    RBP, Run, SAVED, Stack,
 };
 use crate::expect::expect_accepted;
 use machine_model::{Frame as ShadowFrame, Slot, Start};
@@ -16,11 +16,13 @@ use table_defs::{Frame, Stop};
 const GATE: State = State::Regs {
     full: false,
     depth: 0,
+    trap: false,
 };
 
 const ABOVE: State = State::Regs {
     full: false,
     depth: 8,
+    trap: false,
 };
 
 /// The first interrupt comes behind the push of rbp, at rsp 0x80F0.
@@ -144,14 +146,9 @@ const INTERRUPTED_OUTSIDE: From = From {
         size: 256,
         words: &[(0x8030, RBP), (0x8090, OUTSIDE), (0x80A8, 0x80E0)],
         shadow: &[ShadowFrame {
-            call: None,
-            ra: OUTSIDE,
             cfa: 0x80E0,
-            bp: RBP,
             slot: Slot::FullAt(0x8010),
-            ac: false,
-            ended_caller: None,
-            mark_caller: None,
+            ..OUTERMOST
         }],
         frames: INTERRUPTED,
         stop: Stop::Outside,
@@ -173,6 +170,7 @@ const OUTSIDE_INTERRUPTED: Accepted = Accepted {
                     With::Hint(HintState::Set(State::Regs {
                         full: true,
                         depth: 0,
+                        trap: false,
                     })),
                 ],
             ),
@@ -187,14 +185,17 @@ const OUTSIDE_INTERRUPTED: Accepted = Accepted {
         Some(State::Regs {
             full: true,
             depth: 0,
+            trap: false,
         }),
         Some(State::Regs {
             full: true,
             depth: -32,
+            trap: false,
         }),
         Some(State::Regs {
             full: false,
             depth: 88,
+            trap: false,
         }),
         Some(GATE),
     ],
@@ -214,18 +215,21 @@ const PUSHED_3: State = State::Live {
     depth: Depth::Known(32),
     fp: None,
     bp: BpHome::Same,
+    copy: None,
 };
 
 const PUSHED_4: State = State::Live {
     depth: Depth::Known(40),
     fp: None,
     bp: BpHome::Same,
+    copy: None,
 };
 
 const PUSHED_5: State = State::Live {
     depth: Depth::Known(48),
     fp: None,
     bp: BpHome::Same,
+    copy: None,
 };
 
 /// 50 54 48 83 04 24 08 9C 50 68 xx xx xx xx 48 CF C3: push rax (ss); push rsp, and add 8 to it in memory;

@@ -62,6 +62,7 @@ const GATE_LEAVES: Accepted = Accepted {
         Some(State::Regs {
             full: false,
             depth: 0,
+            trap: false,
         }),
     ],
     runs: &[Run {

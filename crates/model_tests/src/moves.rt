@@ -27,13 +27,19 @@ fn state_of(told: Told) -> State {
             depth: Depth::Known(depth),
             fp: None,
             bp,
+            copy: None,
         },
         Framed(depth) => State::Live {
             depth,
             fp: Some(16),
             bp: BpHome::Saved(16),
+            copy: None,
         },
-        Regs(full, depth) => State::Regs { full, depth },
+        Regs(full, depth) => State::Regs {
+            full,
+            depth,
+            trap: false,
+        },
         Is(state) => state,
     }
 }
@@ -148,6 +154,7 @@ const LIVE: [Move; 24] = [
             depth: Depth::Known(40),
             fp: Some(24),
             bp: BpHome::Saved(24),
+            copy: None,
         })),
     ),
     (
@@ -165,7 +172,7 @@ const LIVE: [Move; 24] = [
     ),
     (
         Framed(Depth::AtLeast(24)),
-        Op::SpReg,
+        Op::SpReg { reg: 0 },
         Ok(Framed(Depth::AtLeast(24))),
     ),
     (
@@ -202,6 +209,7 @@ const UNSAVED_BASE: State = State::Live {
     depth: Depth::Known(24),
     fp: Some(24),
     bp: BpHome::Same,
+    copy: None,
 };
 
 const UNDEFINED: State = State::Ended(EndKind::Undefined);
@@ -211,7 +219,7 @@ const END: State = State::Ended(EndKind::EndOfStack);
 const REFUSED: [Move; 23] = [
     (Framed(Depth::Known(16)), Op::SpOther, Err(7)),
     (At(24, BpHome::Saved(16)), Op::SubSp, Err(7)),
-    (ENTRY, Op::SpReg, Err(7)),
+    (ENTRY, Op::SpReg { reg: 0 }, Err(7)),
     (ENTRY, Op::BpOther, Err(8)),
     (ENTRY, Op::LeaBpRoom { by: 0 }, Err(8)),
     (ENTRY, Op::PopBp, Err(8)),
@@ -254,7 +262,7 @@ const SAVED_REGISTERS: [Move; 16] = [
     (Regs(true, 8), Op::LeaBpRoom { by: 0 }, Ok(Regs(true, 8))),
     (Regs(true, 0), Op::SpOther, Err(7)),
     (Regs(true, 0), Op::SubSp, Err(7)),
-    (Regs(true, 0), Op::SpReg, Err(7)),
+    (Regs(true, 0), Op::SpReg { reg: 0 }, Err(7)),
     (Regs(false, 88), Op::IretNext, Err(15)),
 ];
 
@@ -267,7 +275,7 @@ const ENDED_OPS: [Op; 7] = [
     Op::Pop,
     Op::SpOther,
     Op::SubSp,
-    Op::SpReg,
+    Op::SpReg { reg: 0 },
     Op::BpOther,
     Op::Hop,
     Op::IretNext,

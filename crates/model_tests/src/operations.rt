@@ -4,9 +4,10 @@ use crate::case::{
     Broken, CALLED, CALLER, End, From, How, NO_OPTIONS, OUTERMOST, OUTSIDE, RBP, Stack, Wrong,
 };
 use crate::expect::expect_broken;
-use machine_model::{Frame, Slot, Start};
+use machine_model::{Frame, Start};
 use operation_defs::Op;
 use ot_base::rules;
+use program_model::Stack as StackPlace;
 use stack_examples::lines::{Table, With};
 use state_defs::{BpHome, Depth, HintState, State};
 use table_defs::Stop;
@@ -100,14 +101,12 @@ const DEEP: From = From {
         size: 0x10108,
         words: &[(0x18100, OUTSIDE)],
         shadow: &[Frame {
-            call: None,
-            ra: OUTSIDE,
             cfa: 0x18108,
-            bp: RBP,
-            slot: Slot::Unsaved,
-            ac: false,
-            ended_caller: None,
-            mark_caller: None,
+            stack: StackPlace {
+                lo: 0x8000,
+                hi: 0x18108,
+            },
+            ..OUTERMOST
         }],
         frames: &[],
         stop: Stop::Outside,
@@ -141,14 +140,8 @@ const TOLD_UNSAVED: From = From {
         size: 256,
         words: &[(0x80F8, OUTSIDE)],
         shadow: &[Frame {
-            call: None,
-            ra: OUTSIDE,
-            cfa: 0x8100,
             bp: 0x80E8,
-            slot: Slot::Unsaved,
-            ac: false,
-            ended_caller: None,
-            mark_caller: None,
+            ..OUTERMOST
         }],
         frames: &[],
         stop: Stop::Outside,
@@ -170,6 +163,7 @@ const LEAVE_UNSAVED: Broken = Broken {
                         depth: Depth::Known(24),
                         fp: Some(24),
                         bp: BpHome::Same,
+                        copy: None,
                     })),
                 ],
             ),
@@ -192,7 +186,13 @@ const LOW: From = From {
         rbp: RBP,
         size: 512,
         words: &[(0x80F8, OUTSIDE)],
-        shadow: &[OUTERMOST],
+        shadow: &[Frame {
+            stack: StackPlace {
+                lo: 0x8000,
+                hi: 0x8200,
+            },
+            ..OUTERMOST
+        }],
         frames: &[CALLER],
         stop: Stop::Outside,
     },

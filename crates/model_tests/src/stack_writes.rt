@@ -61,7 +61,7 @@ const BEFORE_SAVE: Broken = Broken {
     name: "rsp written right before a SAVE",
     table: Table {
         rows: &[
-            (0, 3, Op::SpReg, &[]),
+            (0, 3, Op::SpReg { reg: 0 }, &[]),
             (3, 1, Op::Ret, &[With::Hint(HintState::Save)]),
         ],
         entries: &[0],
@@ -114,12 +114,14 @@ const ROOM: State = State::Live {
     depth: Depth::AtLeast(16),
     fp: Some(16),
     bp: BpHome::Saved(16),
+    copy: None,
 };
 
 const ROOM_PUSHED: State = State::Live {
     depth: Depth::AtLeast(24),
     fp: Some(16),
     bp: BpHome::Saved(16),
+    copy: None,
 };
 
 /// 55 48 89 E5 53 85 C0 7E 03 48 29 C4 E8 00 00 00 00 48 8B 5D F8 C9 C3: under a frame pointer room is made, or not. rsp doesn't

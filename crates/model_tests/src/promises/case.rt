@@ -2,8 +2,9 @@
 //! to prove; `expect` reads them.
 
 use machine_defs::EdgeKind;
-use machine_model::{Allowed, Frame, Promise, Slot};
+use machine_model::{Allowed, Frame, Held, Promise, Registers, Slot, Told};
 use ot_base::Options;
+use program_model::Stack;
 use stack_examples::lines::Table;
 
 /// Where the stack begins, how many bytes it has, and where it ends.
@@ -12,6 +13,11 @@ pub const LO: u64 = 0x8000;
 pub const SIZE: usize = 256;
 
 const HI: u64 = 0x8100;
+
+pub const STACK: Stack = Stack { lo: LO, hi: HI };
+
+/// The general registers beside rsp and rbp.
+pub const REGISTERS: Registers = [0; 16];
 
 /// Where the caller outside goes on, and its rbp.
 pub const OUTSIDE: u64 = 0xA000_0000;
@@ -24,7 +30,13 @@ pub const CALLED: Frame = Frame {
     ra: OUTSIDE,
     cfa: HI,
     bp: RBP,
+    registers: REGISTERS,
+    stack: STACK,
+    held: Held::Nothing,
     slot: Slot::Unsaved,
+    cell: None,
+    told: Told::Untold,
+    trap: false,
     ac: false,
     ended_caller: None,
     mark_caller: None,
@@ -35,7 +47,13 @@ pub const CALLED_WITH_ACCESS: Frame = Frame {
     ra: OUTSIDE,
     cfa: HI,
     bp: RBP,
+    registers: REGISTERS,
+    stack: STACK,
+    held: Held::Nothing,
     slot: Slot::Unsaved,
+    cell: None,
+    told: Told::Untold,
+    trap: false,
     ac: true,
     ended_caller: None,
     mark_caller: None,

@@ -1,16 +1,16 @@
 //! What is expected of a program: its warnings with its options and without, its run, and which promises that breaks.
 
 use super::case::{
-    At, CALLED, CALLED_WITH_ACCESS, Example, Harmless, How, LO, NO_OPTIONS, OUTSIDE, Pair, SIZE,
-    Warned,
+    At, CALLED, CALLED_WITH_ACCESS, Example, Harmless, How, LO, NO_OPTIONS, OUTSIDE, Pair,
+    REGISTERS, SIZE, STACK, Warned,
 };
 use machine_defs::{Edge, EdgeKind};
 use machine_model::{
-    Anything, Choice, Core, Machine, Promise, Standing, Start, broken_promises, first_homes,
+    Anything, Choice, Core, Held, Machine, Promise, Standing, Start, broken_promises, first_homes,
     homes_after, next_state, started, warnings,
 };
 use ot_base::{Options, Place, Warning};
-use program_model::{Kept, Program, Region};
+use program_model::{Kept, Memory, Program, Region};
 use stack_examples::builder::program;
 use std::alloc::{AllocError, Global};
 use std::process::Abort;
@@ -35,6 +35,9 @@ fn goes(to: u32, kind: EdgeKind, ac: bool) -> Choice<'static> {
             word: 0xDD,
             rsp: 0x8080,
             rbp: 0xBB,
+            registers: REGISTERS,
+            cell: 0,
+            other: STACK,
             ac,
         },
     }
@@ -47,8 +50,16 @@ impl How {
             How::PopsFlags(ac) => goes(to, EdgeKind::Next, ac),
             How::Calls => Choice::CallsIn { entry: to, at: to },
             How::CallsInto(entry) => Choice::CallsIn { entry, at: to },
-            How::CallsOut => Choice::CallsOut { to, stores: &[] },
-            How::Returns => Choice::Returns { to, stores: &[] },
+            How::CallsOut => Choice::CallsOut {
+                to,
+                stores: &[],
+                registers: REGISTERS,
+            },
+            How::Returns => Choice::Returns {
+                to,
+                stores: &[],
+                registers: REGISTERS,
+            },
             How::TailCalls => Choice::TailCalls { to },
         }
     }
@@ -97,18 +108,24 @@ struct State {
 /// Where the machine stands after a call from outside.
 fn called(alloc: Global, from: &At) -> Result<Standing, AllocError> {
     let (point, rsp, rbp, ac, _) = *from;
-    let mut region = Region {
+    let region = Region {
         lo: LO,
         bytes: vec![in alloc; 0u8; SIZE]?,
     };
-    region.write_word(rsp, OUTSIDE);
+    let mut memory = Memory {
+        stacks: vec![in alloc; region]?,
+    };
+    memory.write_word(rsp, OUTSIDE);
     let frame = if ac { CALLED_WITH_ACCESS } else { CALLED };
     Ok(Standing {
         point,
         core: Core {
             rsp,
             rbp,
-            region,
+            registers: REGISTERS,
+            memory,
+            stack: STACK,
+            held: Held::Nothing,
             ac,
             shadow: vec![in alloc; frame]?,
         },

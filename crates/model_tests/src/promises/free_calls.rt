@@ -22,6 +22,7 @@ const AT_ENTRY: State = State::Live {
     depth: Depth::Known(8),
     fp: None,
     bp: BpHome::Same,
+    copy: None,
 };
 
 /// Code of no function that is called, where a hint tells the stack as at an entry.
