@@ -1,22 +1,25 @@
--- The rows of consistent states tell call frames.
-use Rattle.std.proofs.Common.{◌≡◌, ℕ, ◌⊎◌, Bool, true, false, cond, Option, Some, None, ℤ, pos, refl, sym, ap, subst, inl, inr, arith, Contains, List}
+-- The rows of consistent states have call frame information.
+use Rattle.std.proofs.Common.{◌≡◌, ℕ, Bool, true, false, cond, Option, Some, None, ℤ, pos, refl, sym, ap, subst, inl, inr, arith, Contains, List}
 use Rattle.std.specs.Prelude.{All, neg_ℤ, option_map, ◌≤ℤ◌}
 use Rattle.std.proofs.lemmas.Int.{ints}
 use Rattle.std.proofs.lemmas.List.Elements.{All-contains}
 use Rattle.ot_base.specs.NameLists.{NameLists}
 use Rattle.ot_base.specs.Places.{same_place}
 use Rattle.ot_base.specs.Section.{TextSection}
-use Rattle.ot_base.specs.declared.codes.TheConstants.{KIND_CALL, REG_BP, REG_SP, REG_PREV_SP, REG_UNDEFINED}
+use Rattle.ot_base.specs.declared.codes.TheConstants.{KIND_CALL, REG_PREV_SP}
 use Rattle.ot_base.specs.declared.place.Place.{Place}
 use Rattle.ot_base.specs.declared.row.PlacedRow.{PlacedRow}
 use Rattle.ot_base.specs.declared.row.Row.{Row}
+use Rattle.state_defs.specs.declared.state.Depth.{Depth}
+use Rattle.state_defs.specs.declared.state.Depth.TheVariants.{Known}
+use Rattle.state_defs.specs.declared.state.BpHome.{BpHome}
 use Rattle.state_defs.specs.declared.state.BpHome.TheVariants.{Same, Saved}
-use Rattle.state_defs.specs.declared.state.EndKind.TheVariants.{Undefined, EndOfStack}
+use Rattle.state_defs.specs.declared.state.Phase.TheVariants.{Bare, Pushed, Framed, Homed}
 use Rattle.state_defs.specs.declared.state.State.{State}
-use Rattle.state_defs.specs.declared.state.State.TheVariants.{Live, Ended, Regs}
-use Rattle.state_defs.specs.Row.{row_of, zero_row}
+use Rattle.state_defs.specs.declared.state.State.TheVariants.{Live, Ended, Regs, Poised, Switched, Drap}
+use Rattle.state_defs.specs.Row.{bp_offset_of, bp_reg_of, row_of, zero_row}
 use Rattle.state_defs.specs.Sound.{MoveIsConsistent}
-use Rattle.state_defs.specs.State.{IsConsistent}
+use Rattle.state_defs.specs.State.{IsConsistent, IsConsistentLive}
 use Rattle.flow_defs.specs.Coded.{Coded}
 use Rattle.flow_defs.specs.Program.{program_of}
 use Rattle.machine_defs.specs.Program.{Program, Site}
@@ -32,26 +35,32 @@ use Rattle.eh_frame.specs.RowFrames.{IsFrameRow}
 use Rattle.object_law.specs.Rows.{IsPlacedRow}
 
 -- What call frame information asks of a row but for the size of its numbers.
-record TellsFrame (row : Row) : Type 0 where
-  sp_reg : row.kind ≡ KIND_CALL → (row.sp_reg ≡ REG_BP) ⊎ (row.sp_reg ≡ REG_SP)
-  bp_reg : row.kind ≡ KIND_CALL → (row.bp_reg ≡ REG_UNDEFINED) ⊎ ((row.bp_reg ≡ REG_PREV_SP) × (row.bp_offset ≤ℤ pos 0))
+abbrev SavesBelowTop : Row → Type 0
+SavesBelowTop row = row.kind ≡ KIND_CALL → row.bp_reg ≡ REG_PREV_SP → row.bp_offset ≤ℤ pos 0
 
 below_top : (o : ℤ) → pos 16 ≤ℤ o → neg_ℤ o ≤ℤ pos 0
 below_top o h = omega (arith, ints)
 
--- the row of a consistent state does
-state_tells : (s : State) → IsConsistent s → TellsFrame (row_of s)
-state_tells (Live depth None Same) is = record { sp_reg = λ _. inr refl; bp_reg = λ _. inl refl }
-state_tells (Live depth None (Saved at)) is = record { sp_reg = λ _. inr refl; bp_reg = λ _. inr (refl, below_top at (is.saved at refl).0) }
-state_tells (Live depth (Some base) Same) is = record { sp_reg = λ _. inl refl; bp_reg = λ _. inl refl }
-state_tells (Live depth (Some base) (Saved at)) is = record { sp_reg = λ _. inl refl; bp_reg = λ _. inr (refl, below_top at (is.saved at refl).0) }
-state_tells (Ended Undefined) is = record { sp_reg = λ e. absurd (omega (arith, e)); bp_reg = λ e. absurd (omega (arith, e)) }
-state_tells (Ended EndOfStack) is = record { sp_reg = λ e. absurd (omega (arith, e)); bp_reg = λ e. absurd (omega (arith, e)) }
-state_tells (Regs true depth) is = record { sp_reg = λ e. absurd (omega (arith, e)); bp_reg = λ e. absurd (omega (arith, e)) }
-state_tells (Regs false depth) is = record { sp_reg = λ e. absurd (omega (arith, e)); bp_reg = λ e. absurd (omega (arith, e)) }
+-- a caller's rbp that is saved in a call's frame is saved below its top
+home_below : (depth : Depth) (fp : Option ℤ) (home : BpHome) → IsConsistentLive depth fp home → bp_reg_of home ≡ REG_PREV_SP → bp_offset_of home ≤ℤ pos 0
+home_below depth fp Same is e = absurd (omega (arith, e))
+home_below depth fp (Saved at) is e = below_top at (is.saved at refl).0
 
-zero_tells : TellsFrame zero_row
-zero_tells = record { sp_reg = λ e. absurd (omega (arith, e)); bp_reg = λ e. absurd (omega (arith, e)) }
+-- the row of a consistent state does
+state_tells : (s : State) → IsConsistent s → SavesBelowTop (row_of s)
+state_tells (Live depth fp home copy) is = λ k. home_below depth fp home is
+state_tells (Ended kind) is = λ k e. absurd (omega (arith, e))
+state_tells (Regs full depth trap) is = λ k e. absurd (omega (arith, e))
+state_tells (Poised depth fp home) is = λ k. home_below depth fp home is
+state_tells (Switched depth home fp) is = λ k. home_below (Known depth) fp home is
+-- while rsp is aligned, it isn't told from the top
+state_tells (Drap reg (Bare depth)) is = λ k e. absurd (omega (arith, e))
+state_tells (Drap reg (Pushed size)) is = λ k e. absurd (omega (arith, e))
+state_tells (Drap reg (Framed size)) is = λ k e. absurd (omega (arith, e))
+state_tells (Drap reg (Homed size home)) is = λ k e. absurd (omega (arith, e))
+
+zero_tells : SavesBelowTop zero_row
+zero_tells = λ k e. absurd (omega (arith, e))
 
 -- what holds of the rows of a program's states, and of the row that says that nothing is known
 module _ (p : Program) (states : ℕ → Option State) (P : Row → Type 0) (nothing : P zero_row) (each : (q : ℕ) (s : State) → states q ≡ Some s → P (row_of s)) where
@@ -94,8 +103,8 @@ module _ (p : Program) (states : ℕ → Option State) (P : Row → Type 0) (not
         | inr end ↦ subst P (sym (ap (λ (z : PlacedRow). z.row) end)) nothing
       ]
 
-frame_row : (o : Coded) (x : PlacedRow) → IsPlacedRow o x → TellsFrame x.row → IsFrameRow x.row
-frame_row o x placed tells = record { fields = placed.row; sp_reg = tells.sp_reg; bp_reg = tells.bp_reg }
+frame_row : (o : Coded) (x : PlacedRow) → IsPlacedRow o x → SavesBelowTop x.row → IsFrameRow x.row
+frame_row o x placed tells = record { fields = placed.row; saved = tells }
 
 pub rows_are_frame_rows : (o : Coded) (lists : NameLists) (states : ℕ → Option State) → MoveIsConsistent → IsProgram (program_of o lists) → HintsStandAtPoints (program_of o lists) → AreKeptStates (program_of o lists) states
     → All (IsPlacedRow o) (rows_of (program_of o lists) states) → All (λ placed. IsFrameRow placed.row) (rows_of (program_of o lists) states)
@@ -104,4 +113,4 @@ rows_are_frame_rows o lists states keeps is hints kept placed =
     let all : List PlacedRow = rows_of p states in
     all_of (λ (x : PlacedRow). IsFrameRow x.row) all
     (λ x c. frame_row o x (All-contains (IsPlacedRow o) all x placed c)
-    (of_each p states TellsFrame zero_tells (λ q s at. let k = (kept q s).0 at in state_tells s (kept_consistent p is keeps q s (kept_are_points p is hints q s k) k)) x c))
+    (of_each p states SavesBelowTop zero_tells (λ q s at. let k = (kept q s).0 at in state_tells s (kept_consistent p is keeps q s (kept_are_points p is hints q s k) k)) x c))

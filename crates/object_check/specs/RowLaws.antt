@@ -15,7 +15,7 @@ use Rattle.object_law.specs.Flows.{ObjectIsInOrder}
 abbrev pub RowsAscend : Type 0
 RowsAscend = (o : Coded) (lists : NameLists) (states : ℕ → Option State) → AllPairs (λ one other. ComesBefore one.place other.place) (rows_of (program_of o lists) states)
 
--- The rows of the kept states of an object in order, whose program breaks no rule, are such that call frame information tells them.
+-- The rows of the kept states of an object in order, whose program breaks no rule, have call frame information.
 abbrev pub RowsTellFrames : Type 0
 RowsTellFrames =
     (o : Coded) (lists : NameLists) (states : ℕ → Option State)

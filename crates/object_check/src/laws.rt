@@ -6,8 +6,8 @@ use object_law::flow_laws::{program_is_laid_out, program_is_one};
 use object_law::object_laws::rows_are_rows_of;
 use stack_state::laws::move_is_consistent;
 
-/// The rows of an object's program strictly ascend by their places. Those of the kept states of a program that breaks no rule tell
-/// call frames: a row of a call's frame counts from rsp or rbp, with the caller's rbp in rbp or saved below the frame's top.
+/// The rows of an object's program strictly ascend by their places. Those of the kept states of a program that breaks no rule have
+/// call frame information: where a row of a call's frame saves rbp at an offset from the frame's top, it saves it below.
 pub(crate) fn rows_tell_frames()
     ensures ascend { RowsAscend }
     ensures frames { RowsTellFrames }
