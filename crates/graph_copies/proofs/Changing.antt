@@ -40,6 +40,12 @@ some_is x y e = ap (λ o. unwrap_or o x) e
 
 -- ---- operations
 
+pub changed_here : (c : Change) (q : ℕ) (op : Op) → q ≡ c.point → changed c q op ≡ c.op
+changed_here c q op same = ap (λ (b : Bool). if b then c.op else op) (eq-eqb c.point q (sym same))
+
+pub changed_elsewhere : (c : Change) (q : ℕ) (op : Op) → (q ≡ c.point → ⊥) → changed c q op ≡ op
+changed_elsewhere c q op other = ap (λ (b : Bool). if b then c.op else op) (ne_eqb c.point q (λ e. other (sym e)))
+
 module _ (points : List GraphPoint) (kinds kinds_after : List PointKind) (c : Change) (x : GraphPoint) (k : PointKind) (number : ℕ) where
   -- a point gets a new kind
   pub change_one : slice_get points c.point ≡ Some x → slice_get kinds x.kind ≡ Some k → Extends kinds kinds_after → slice_get kinds_after number ≡ Some (record k { op = c.op }) → ChangeTo c points kinds (set points c.point (record x { kind = number })) kinds_after
@@ -52,21 +58,15 @@ module _ (points : List GraphPoint) (kinds kinds_after : List PointKind) (c : Ch
           record {
             number = number;
             point = ap (slice_get (set points c.point (record x { kind = number }))) same ∙ set_here points c.point (record x { kind = number }) (slice_get_within points c.point x at) ∙ ap (λ (z : GraphPoint). Some (record z { kind = number })) y_is;
-            kind = new ∙ ap (λ (z : PointKind). Some (record z { op = c.op })) l_is ∙ ap (λ (o : Op). Some (record l { op = o })) (sym (here q l.op same));
+            kind = new ∙ ap (λ (z : PointKind). Some (record z { op = c.op })) l_is ∙ ap (λ (o : Op). Some (record l { op = o })) (sym (changed_here c q l.op same));
           }
       | inr other ↦ record {
         number = y.kind;
         point = set_there points c.point q y (record x { kind = number }) other there;
-        kind = longer y.kind l is ∙ ap (λ (o : Op). Some (record l { op = o })) (sym (elsewhere q l.op other));
+        kind = longer y.kind l is ∙ ap (λ (o : Op). Some (record l { op = o })) (sym (changed_elsewhere c q l.op other));
       }
     ];
   }
-    where
-      here : (q : ℕ) (op : Op) → q ≡ c.point → changed c q op ≡ c.op
-      here q op same = ap (λ (b : Bool). if b then c.op else op) (eq-eqb c.point q (sym same))
-
-      elsewhere : (q : ℕ) (op : Op) → (q ≡ c.point → ⊥) → changed c q op ≡ op
-      elsewhere q op other = ap (λ (b : Bool). if b then c.op else op) (ne_eqb c.point q (λ e. other (sym e)))
 
   pub change_names : NameKinds points kinds → Extends kinds kinds_after → slice_get kinds_after number ≡ Some (record k { op = c.op }) → c.point < length points → NameKinds (set points c.point (record x { kind = number })) kinds_after
   change_names names longer new inside q y at = elim (cases_eq q c.point) [
@@ -82,7 +82,7 @@ module _ (points : List GraphPoint) (kinds kinds_after : List PointKind) (c : Ch
 pub change_none : (points : List GraphPoint) (kinds : List PointKind) → ChangesTo [] points kinds points kinds
 change_none points kinds = record { long = refl; ops = λ q x k at is. record { number = x.kind; point = at; kind = is } }
 
-changed_more : (cs : List Change) (c : Change) (q : ℕ) (op : Op) → changed_by (cs ++ c ∷ []) q op ≡ changed c q (changed_by cs q op)
+pub changed_more : (cs : List Change) (c : Change) (q : ℕ) (op : Op) → changed_by (cs ++ c ∷ []) q op ≡ changed c q (changed_by cs q op)
 changed_more [] c q op = refl
 changed_more (d ∷ cs) c q op = changed_more cs c q (changed d q op)
 

@@ -5,3 +5,4 @@ pub mod Behind
 pub mod Owners
 pub mod Changing
 pub mod Remade
+pub mod Makes

@@ -3,3 +3,4 @@ pub mod Losses
 pub mod Cells
 pub mod Rooms
 pub mod Changes
+pub mod Makings

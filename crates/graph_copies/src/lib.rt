@@ -4,6 +4,7 @@
 mod adding;
 mod asking;
 mod cells;
+mod making;
 mod remaking;
 mod rooms;
 
