@@ -28,6 +28,6 @@ pub mod Settling
 pub mod Alike
 pub mod Noted
 pub mod Whole
-pub mod Losses
+pub mod LostRegisters
 pub mod UsualKinds
 mod SwitchedInsns

@@ -65,15 +65,15 @@ not refused for such a hint, which ends the stack there.
         "\
 refused: section N: entry M: HintSignal
 
-The signal byte of the unwind hint, entry M of section N, isn't that of its
-type: 0 in hints of the types CALL and FUNC, 1 in REGS and REGS_PARTIAL. It
-says whether an interrupt came between the frame and its caller, by which a
-walk knows how to look the caller's address up.
+The signal byte of the unwind hint, entry M of section N, isn't one of its
+type: 0 in hints of the types CALL and FUNC, 0 or 1 in REGS and REGS_PARTIAL.
+It says whether an interrupt came between the frame and its caller, by which a
+walk knows how to look the caller's address up: over saved registers 1 after
+an interrupt, 0 after a breakpoint, whose saved address is behind it.
 
 The kernel's UNWIND_HINT_REGS, UNWIND_HINT_IRET_REGS and UNWIND_HINT_FUNC set
-it so. A hint that is written by UNWIND_HINT itself needs signal=1 over saved
-registers and signal=0 else. Objects of other kernels may have hints of
-another layout.
+it so. A hint that is written by UNWIND_HINT itself needs signal=0 in calls'
+frames. Objects of other kernels may have hints of another layout.
 
 Code that is listed as loose (`loose NAME` in a file that --names gives) is
 not refused for such a hint, which ends the stack there.

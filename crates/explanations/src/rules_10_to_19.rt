@@ -51,8 +51,8 @@ rule 12: alternatives disagree at offset A
 At a site of `.altinstructions` several pieces of code may stand, and which
 one is decided at boot; the table is one for all of them. A bytes behind the
 start of the site, which is the place that is told, two of them have different
-rows, or a call ends there whose row isn't the one in force. With one of the
-pieces a walk through the site would go wrong.
+rows, or a call or a breakpoint ends there whose row isn't the one in force.
+With one of the pieces a walk through the site would go wrong.
 
 In assembly ALTERNATIVE() has a push or pop in one variant and not, or at
 another offset, in the other. Move what changes the stack out of the site, or
@@ -187,8 +187,9 @@ Of several the nearest one counts.
         "\
 rule 19: relocated stack offset
 
-The instruction moves rsp or rbp by a number, masks rsp with one, or saves or
-loads rbp at one, and a relocation stands at its bytes. What runs after
+The instruction moves rsp or rbp by a number, masks rsp with one, saves or
+loads rbp at one, or sets a register from rsp by one where that is followed,
+and a relocation stands at its bytes. What runs after
 linking is then another number than the one that was counted with, and every
 row behind it would be wrong.
 

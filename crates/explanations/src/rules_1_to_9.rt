@@ -136,17 +136,21 @@ rule 7: unsupported write of rsp
 rsp is written in a way that can't be followed. Followed are push and pop,
 numbers that are added or subtracted, `leave`, rsp from rbp where rbp is the
 frame's base, and masks and room of a size that isn't known (`and $-16,%rsp`,
-`sub %rax,%rsp`, `mov %rax,%rsp`) where rbp is the frame's base too. Behind
-any other write nobody knows where the return address lies.
+`sub %rax,%rsp`, `mov %rax,%rsp`) where rbp is the frame's base too. So are
+copies of rsp in other registers and rsp from them (`mov %rsp,%rbx` and back),
+frames that are aligned by way of r10 or r13, and another stack, where rsp is
+saved in its top word first (`mov %rsp,(%rbx); mov %rbx,%rsp`, at last
+`pop %rsp`). Behind any other write nobody knows where the return address
+lies; and right behind a save of rsp for another stack nothing but the way
+there may come.
 
-In assembly this is a stack switch (`mov %rsp,%r11` and back, a load of rsp
-from memory, `pop %rsp`, `enter`). Put a hint right behind the write that says
-what the stack is then (UNWIND_HINT_REGS, UNWIND_HINT_FUNC, or
-UNWIND_HINT_RESTORE behind an UNWIND_HINT_SAVE): in front of a hint that sets
-or restores the state the write is allowed. Or set up a frame first
-(`push %rbp`, `mov %rsp,%rbp`), or name the function by
-STACK_FRAME_NON_STANDARD. It is a limit of this tool where a second register
-keeps rsp all the while.
+In assembly this is a stack switch (a load of rsp from memory, `enter`, or rsp
+from a register that on some way there may hold something else). Put a hint
+right behind the write that says what the stack is then (UNWIND_HINT_REGS,
+UNWIND_HINT_FUNC, or UNWIND_HINT_RESTORE behind an UNWIND_HINT_SAVE): in front
+of a hint that sets or restores the state the write is allowed. Or set up a
+frame first (`push %rbp`, `mov %rsp,%rbp`), or name the function by
+STACK_FRAME_NON_STANDARD.
 
 Code that can't be followed, as where it leaves its stack for good, is listed
 as loose: a line `loose NAME` in a file that --names gives. It is checked, but
@@ -186,15 +190,19 @@ isn't known, and it is needed: rsp is masked (`and $-16,%rsp`) or taken from
 rbp (`leave`, `mov %rbp,%rsp`) while rbp isn't the frame's base; it rises
 above the return address; or rbp is given up while it alone tells where the
 frame is, after a mask or room of a size that isn't known. A walk would have
-no base.
+no base. Or r10 or r13 alone tells where the frame's top is, before it is
+pushed (`lea 8(%rsp),%r10; and $-32,%rsp`), and the instruction calls, or may
+fault and go on at a fixup, as also right behind a save of rsp for another
+stack: nobody would find the frame from there.
 
 In assembly set up the frame first (`push %rbp`, `mov %rsp,%rbp`), and give
-the stack back by `leave` or by lea from rbp, not by adding a number. It can
-be a limit of this tool: compilers that realign the stack through a register
-other than rbp (`lea 8(%rsp),%r10; and $-32,%rsp`) aren't followed. Do without
-the alignment (-mpreferred-stack-boundary, no __aligned locals), or name the
-function by STACK_FRAME_NON_STANDARD. Code that is listed as loose (rule 7)
-doesn't break this rule.
+the stack back by `leave` or by lea from rbp, not by adding a number. Of
+frames that are aligned through another register those are followed that
+compilers make: the top in r10 or r13 by lea, the mask, the return address
+pushed again, rbp pushed and set to rsp, and the register pushed. Do without
+the alignment elsewhere (-mpreferred-stack-boundary, no __aligned locals), or
+name the function by STACK_FRAME_NON_STANDARD. Code that is listed as loose
+(rule 7) doesn't break this rule.
 ",
     ),
 ];
