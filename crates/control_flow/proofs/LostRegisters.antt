@@ -1,5 +1,5 @@
 -- Sets of registers that are lost, register by register.
-use Rattle.std.proofs.Common.{◌≡◌, ℕ, zero, suc, ◌<◌, Bool, true, false, not, ◌&&◌, ◌||◌, if◌then◌else◌, List, [], ◌∷◌, ◌++◌, length, refl, sym, ap, ◌∙◌, arith, bit_and, bit_or, subst, inl, inr}
+use Rattle.std.proofs.Common.{◌≡◌, ℕ, zero, suc, ◌<◌, Bool, true, false, not, ◌&&◌, ◌||◌, if◌then◌else◌, List, [], ◌∷◌, ◌++◌, length, refl, sym, ap, ◌∙◌, arith, bit_and, bit_or, subst, inl, inr, ◌+◌, ◌≤◌}
 use Rattle.std.specs.Prelude.{◌==◌, slice_index}
 use Rattle.std.proofs.lemmas.Bool.{cases_lt, or_left, or_right}
 use Rattle.operation_defs.specs.declared.insn.Insn.{Insn}
@@ -9,6 +9,14 @@ use Rattle.operation_defs.specs.declared.op.Op.{Op}
 use Rattle.operation_defs.specs.Made.{has_register, is_told, may_write, register_of, sets_bp, tells_write}
 use Rattle.machine_defs.specs.Program.{is_call_op, is_given_back, loses}
 use Rattle.register_search.proofs.Registers.{and_has_is, or_has_cases, or_has_left, or_has_right, same_tests}
+use Rattle.std.proofs.lemmas.List.{get_or_append_left, get_or_push, length_push}
+use Rattle.ot_base.specs.NameLists.{NameLists}
+use Rattle.flow_defs.specs.Coded.{Coded}
+use Rattle.flow_defs.specs.Code.{point_at}
+use Rattle.flow_defs.specs.Program.{graph_of, returning_graph, uncopied_program}
+use Rattle.flow_defs.specs.Switching.{insn_by}
+use Rattle.graph_copies.specs.Losses.{TellsLosses}
+use Rattle.control_flow.specs.Listed.{count_of}
 use Rattle.control_flow.specs.Losses.{allows}
 
 -- what holds of each of sixteen holds of all
@@ -73,3 +81,27 @@ lost insn told bp no_call is_told_by is_bp r less =
 
 pub lost_call : (insn : Insn) → is_call_op insn.op ≡ true → (r : ℕ) → r < 16 → has_register 0x0FD7 r ≡ loses insn r
 lost_call insn call r less = lost_by_calls r less ∙ ap (λ t. if t then not (is_given_back r) else may_write insn r) (sym call)
+
+-- The sets of the first n points tell what their instructions lose; so do those of one more.
+abbrev pub AreLost : Coded → NameLists → List ℕ → ℕ → Type 0
+AreLost o lists losses n = (length losses ≡ n) × ((q r : ℕ) → q < n → r < 16 → has_register (slice_index losses q) r ≡ loses (insn_by o lists (point_at o q)) r)
+
+pub none_lost : (o : Coded) (lists : NameLists) (losses : List ℕ) → losses ≡ [] → AreLost o lists losses 0
+none_lost o lists losses none = (ap length none, λ q r less small. absurd (omega (arith, less)))
+
+pub lost_more : (o : Coded) (lists : NameLists) (losses after : List ℕ) (n loss : ℕ) → AreLost o lists losses n → ((r : ℕ) → r < 16 → has_register loss r ≡ loses (insn_by o lists (point_at o n)) r) → after ≡ losses ++ loss ∷ [] → AreLost o lists after (n + 1)
+lost_more o lists losses after n loss are more is = (ap length is ∙ length_push losses loss ∙ ap (λ (k : ℕ). k + 1) are.0, told)
+  where
+    told : (q r : ℕ) → q < n + 1 → r < 16 → has_register (slice_index after q) r ≡ loses (insn_by o lists (point_at o q)) r
+    told q r below small = elim (cases_lt q n) [
+      | inl less ↦ ap (λ (s : ℕ). has_register s r) (ap (λ (xs : List ℕ). slice_index xs q) is ∙ get_or_append_left losses (loss ∷ []) 0 q (omega (arith, are.0, less))) ∙ are.1 q r less small
+      | inr not_less ↦
+          let same : q ≡ n = omega arith in
+          ap (λ (s : ℕ). has_register s r) (ap (λ (xs : List ℕ). slice_index xs q) is ∙ get_or_push losses loss 0 q (are.0 ∙ sym same))
+          ∙ more r small
+          ∙ ap (λ (k : ℕ). loses (insn_by o lists (point_at o k)) r) (sym same)
+    ]
+
+pub lost_told : (o : Coded) (lists : NameLists) (losses : List ℕ) (n : ℕ) → AreLost o lists losses n → count_of o ≤ n → TellsLosses (uncopied_program o lists) losses
+unfolding uncopied_program returning_graph graph_of
+lost_told o lists losses n are all = λ q r here small. are.1 q r (omega (arith, here, all)) small

@@ -71,17 +71,21 @@ usual_more insns kinds stay n insn stays long own is are = record {
           (subst (λ (b : Bool). IsTrue b ↔ StaysDecoded insn.op) (sym last) is)
     ]
 
--- an instruction whose operation stays is the same in the program
-pub same_in_program : (o : Coded) (lists : NameLists) (p : Point) → StaysDecoded (decoded_insn o p).op → insn_by o lists p ≡ decoded_insn o p
+-- an operation that stays is the same in the program, and so is each length
+same_in_program : (o : Coded) (lists : NameLists) (p : Point) → StaysDecoded (decoded_insn o p).op → (insn_by o lists p).op ≡ (decoded_insn o p).op
 unfolding insn_by
-same_in_program o lists p stays = ap (λ (op : Op). let it : Insn = record { len = (decoded_insn o p).len; op = op } in it) (stays (around_by o lists p))
+same_in_program o lists p stays = stays (around_by o lists p)
+
+same_length : (o : Coded) (lists : NameLists) (p : Point) → (insn_by o lists p).len ≡ (decoded_insn o p).len
+unfolding insn_by
+same_length o lists p = refl
 
 -- the usual kind is that of a point of which nothing else is told
 pub usual_is : (o : Coded) (lists : NameLists) (q : ℕ) (may_return is_entered : Bool) (transfer : ℕ) → StaysDecoded (decoded_insn o (point_at o q)).op → is_dead_end o (point_at o q) ≡ false → (may_return ≡ true) × (is_entered ≡ false) × (transfer ≡ 0) → ((other : NameLists) → is_at_entry (uncopied_program o other) q ≡ is_entered) → IsKind o lists q may_return 0 transfer (usual_kind (decoded_insn o (point_at o q)))
 unfolding usual_kind
 usual_is o lists q may_return is_entered transfer stays passed told entered = record {
-  op = ap (λ (i : Insn). i.op) (same_in_program o lists (point_at o q) stays);
-  len = ap (λ (i : Insn). i.len) (same_in_program o lists (point_at o q) stays);
+  op = same_in_program o lists (point_at o q) stays;
+  len = same_length o lists (point_at o q);
   rare_number = refl;
   transfer_number = told.2;
   dead_end = passed;

@@ -43,6 +43,8 @@ use Rattle.control_flow.specs.Points.{AreMade, IsKind}
 use Rattle.control_flow.specs.Rares.{AreRares, IsRareOf}
 use Rattle.control_flow.specs.Transfers.{IsTransferOf}
 use Rattle.control_flow.proofs.Fields.{comes_back_is}
+use Rattle.operation_defs.specs.Made.{has_register}
+use Rattle.register_search.proofs.Registers.{none_has}
 use Rattle.control_flow.proofs.Meant.{meant_has_hint}
 use Rattle.control_flow.proofs.Numbering.{numbered_at, numbered_inside}
 
@@ -82,6 +84,7 @@ pub record AreParts (o : Coded) (lists : NameLists) (parts : GraphParts) (return
   pub texts : map text_of parts.texts.items ≡ text_sections_of o.elf
   pub without_size : parts.without_size.items ≡ unsized_of o.elf
   pub linked : parts.linked ≡ is_linked o.elf
+  pub held : parts.held.items ≡ []
 
 module _ (o : Coded) (lists : NameLists) (parts : GraphParts) (returns : Returns) (starts : List ℕ) (edges : List Edge) (rares transfers : List ℕ) (are : AreParts o lists parts returns starts edges rares transfers) where
   -- what a point has that few have
@@ -229,6 +232,7 @@ module _ (o : Coded) (lists : NameLists) (parts : GraphParts) (returns : Returns
     points = tells_point;
     edges = λ q here own. own_edges q here own;
     alike = λ q r here c is. alike_edges q r here c is;
+    held = λ q r here. sym (ap (λ (held : List ℕ). has_register (slice_index_or held q 0) r) are.held ∙ none_has r);
     sites = sym are.sites;
     texts = sym are.texts;
     unsized = sym are.without_size;
@@ -250,6 +254,7 @@ module _ (o : Coded) (lists : NameLists) (parts : GraphParts) (returns : Returns
     within = λ q l. subst (λ (starts : List ℕ). slice_index starts (q + 1) ≤ length parts.edges.items) (sym are.parts_starts) (omega (arith, are.returns_shape.within q (omega (arith, are.points.long)), ap length are.parts_edges));
     alike_ascend = are.listed.alike_ascend;
     alike = λ q l c. is_alike q (omega (arith, are.points.long)) c;
+    held = λ some. absurd (some are.held);
     restored = are.rares.ranges;
     targets = subst (λ (n : ℕ). All (λ (e : Edge). e.to < n) parts.edges.items) (sym are.points.long) (subst (All (λ (e : Edge). e.to < count_of o)) (sym are.parts_edges) are.returns_shape.targets);
     restores = subst (λ (n : ℕ). All (λ r. r < n) parts.restores.items) (sym are.points.long) are.restores;

@@ -7,8 +7,11 @@ ghost use Rattle.program_graph.specs.Shape.{HaveShape};
 ghost use Rattle.program_graph.specs.Tells.{Tells};
 
 use crate::check_flow;
+use crate::losses::list_losses;
 use crate::parts::parts_of;
+use crate::returning::program_is_right;
 use flow_defs::FlowFault;
+use graph_copies::{add_copies, asks};
 use object_points::{Linked, PointPlaces};
 use ot_base::{Lists, NoMemory};
 use point_edges::FlowPoints;
@@ -28,7 +31,7 @@ fn with_copies(
     ensures shape { IfOk result HaveShape }
 {
     program_is_right(points, lists);
-    if !asks_for_copies(&parts) {
+    if !asks(&parts) {
         return Ok(parts);
     }
     let losses = list_losses(alloc, points, lists)?;

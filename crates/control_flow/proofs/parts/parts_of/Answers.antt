@@ -29,6 +29,7 @@ returns c =
       texts = c.in_ok-beside.beside.texts;
       without_size = c.in_ok-beside.beside.without_size;
       linked = c.in_ok-beside.beside.linked;
+      held = c.new.result;
     } in
     let returned = c.in_ok-edges.edges.returns in
     let transfers : List ℕ = c.in_ok-edges.edges.transfers.numbers.items in
@@ -52,5 +53,6 @@ returns c =
       texts = c.in_ok-beside.ensures.texts ∙ ap (λ (e : Coded). text_sections_of e.elf) places;
       without_size = c.in_ok-beside.ensures.without_size ∙ ap (λ (e : Coded). unsized_of e.elf) places;
       linked = c.in_ok-beside.ensures.linked ∙ ap (λ (e : Coded). is_linked e.elf) places;
+      held = cc;
     } in
     record { tells = parts_tell o lists parts returned told.starts told.edges rares transfers are; shape = parts_have_shape o lists parts returned told.starts told.edges rares transfers are }

@@ -6,7 +6,7 @@ use Rattle.machine_defs.specs.Kept.{is_at_entry}
 use Rattle.flow_defs.specs.Coded.{Coded}
 use Rattle.flow_defs.specs.Code.{point_at}
 use Rattle.flow_defs.specs.Owners.{owner_of_point}
-use Rattle.flow_defs.specs.Program.{uncopied_program}
+use Rattle.flow_defs.specs.Program.{program_of, uncopied_program}
 use Rattle.point_edges.proofs.Standing.{program_enters}
 use Rattle.control_flow.specs.Listed.{count_of, AreEntered}
 use Rattle.control_flow.proofs.Callees.{entered_owned_by}
@@ -14,6 +14,7 @@ use Rattle.control_flow.proofs.points.is_entered.Goals as goal
 
 -- by the number by which calls name the point, and whether it has an owner
 entered_by : (o : Coded) (lists : NameLists) (n : ℕ) (entered : List (Option ℕ)) (owned : Bool) → AreEntered o entered (count_of o) → n < count_of o → is_none (owner_of_point o (point_at o n)) ≡ not owned → is_at_entry (uncopied_program o lists) n ≡ is_some (if owned then slice_index_or entered n None else None)
+unfolding uncopied_program program_of
 entered_by o lists n entered owned are inside own =
     program_enters o lists n (if owned then slice_index_or entered n None else None) (λ entry. entered_owned_by o entered are entry n inside owned own entry)
 

@@ -7,4 +7,4 @@ pub returns : goal.returns
 returns c =
     let o : Coded = c.args.points.now in
     let order : ObjectIsInOrder o = subst ObjectIsInOrder (c.linked.ensures ∙ c.places.ensures) c.object_is_in_order.ensures in
-    c.program_is_one.ensures o c.args.lists.now order
+    c.uncopied_program_is_one.ensures o c.args.lists.now order
