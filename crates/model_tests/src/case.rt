@@ -16,6 +16,14 @@ const HI: u64 = 0x8100;
 /// The stack on which runs start.
 pub const FIRST_STACK: StackPlace = StackPlace { lo: LO, hi: HI };
 
+/// Another stack of the same task, and the address there at which rsp is saved.
+pub const OTHER_STACK: StackPlace = StackPlace {
+    lo: 0x4_0000,
+    hi: 0x4_0100,
+};
+
+pub const CELL: u64 = 0x4_00F0;
+
 /// The general registers beside rsp and rbp.
 pub const REGISTERS: Registers = [0; 16];
 
@@ -105,6 +113,11 @@ pub enum How {
     /// With this written to rsp, by loose code that loses the stack so: there are no frames behind it, and walks end at an
     /// undefined row.
     Loses(u64),
+    /// To the next instruction, behind which walks end so.
+    NextTo(Stop),
+    /// With this in a register; and so that walks end so behind it.
+    Sets(u8, u64),
+    SetsTo(u8, u64, Stop),
     /// By a branch.
     Taken,
     /// By a jump table.
@@ -125,6 +138,8 @@ pub enum How {
     ComesTo(u32),
     /// It returns from an interrupt.
     Irets,
+    /// It returns from a breakpoint.
+    IretsBehind,
     /// Its stack is wrecked.
     Wrecks(Wreck),
 }

@@ -1,12 +1,13 @@
 //! What is expected of a program: its states, its warnings, and how it runs.
 
 use crate::case::{
-    Accepted, Broken, End, FIRST_STACK, From, How, LO, NO_OPTIONS, RBP, REGISTERS, Run, Stack,
-    Warned, Wrong,
+    Accepted, Broken, CELL, End, From, How, LO, NO_OPTIONS, OTHER_STACK, RBP, REGISTERS, Run,
+    Stack, Warned, Wrong,
 };
 use machine_defs::{Edge, EdgeKind};
 use machine_model::{
-    Anything, Choice, Core, Ending, Held, InterruptWords, Machine, Standing, next_state, started,
+    Anything, Choice, Core, Ending, Held, InterruptWords, Machine, Registers, Standing, next_state,
+    started,
 };
 use operation_defs::DrapRegister;
 use ot_base::codes::{REG_R10, REG_R13};
@@ -30,8 +31,8 @@ const ANYTHING: Anything<'static> = Anything {
     rsp: 0x8080,
     rbp: 0xBB,
     registers: REGISTERS,
-    cell: 0,
-    other: FIRST_STACK,
+    cell: CELL,
+    other: OTHER_STACK,
     ac: false,
 };
 
@@ -57,50 +58,70 @@ fn interrupted(gate: u32, at: u32) -> Choice<'static> {
     }
 }
 
+/// Registers with this in one of them.
+fn with_register(registers: Registers, reg: u8, number: u64) -> Registers {
+    let mut registers = registers;
+    if let Some(register) = registers.get_mut(reg as usize) {
+        *register = number;
+    }
+    registers
+}
+
 impl How {
     /// Where the stack ends behind a step, of one that ended so before it.
     fn stop(self, before: Stop) -> Stop {
         match self {
             How::Loses(_) => Stop::Undefined,
+            How::NextTo(stop) | How::SetsTo(_, _, stop) => stop,
             _ => before,
         }
     }
 
-    fn choice(self, to: u32) -> Choice<'static> {
+    /// The step, from where these are the general registers.
+    fn choice(self, to: u32, registers: Registers) -> Choice<'static> {
+        let any = Anything {
+            registers,
+            ..ANYTHING
+        };
         match self {
-            How::Next => goes(to, EdgeKind::Next, ANYTHING),
-            How::Stores(stores) => goes(to, EdgeKind::Next, Anything { stores, ..ANYTHING }),
-            How::WritesBp(rbp) => goes(to, EdgeKind::Next, Anything { rbp, ..ANYTHING }),
+            How::Next | How::NextTo(_) => goes(to, EdgeKind::Next, any),
+            How::Sets(reg, number) | How::SetsTo(reg, number, _) => {
+                let registers = with_register(registers, reg, number);
+                goes(to, EdgeKind::Next, Anything { registers, ..any })
+            }
+            How::Stores(stores) => goes(to, EdgeKind::Next, Anything { stores, ..any }),
+            How::WritesBp(rbp) => goes(to, EdgeKind::Next, Anything { rbp, ..any }),
             How::WritesSp(rsp) | How::Loses(rsp) => {
                 let any = Anything {
                     rsp,
                     rbp: RBP,
-                    ..ANYTHING
+                    ..any
                 };
                 goes(to, EdgeKind::Next, any)
             }
-            How::Taken => goes(to, EdgeKind::Taken, ANYTHING),
-            How::Table => goes(to, EdgeKind::Table, ANYTHING),
+            How::Taken => goes(to, EdgeKind::Taken, any),
+            How::Table => goes(to, EdgeKind::Table, any),
             How::Faults(stores) => Choice::Faults {
                 to,
                 stores,
-                registers: REGISTERS,
+                registers,
             },
             How::Calls => Choice::CallsIn { entry: to, at: to },
             How::CallsOut(stores) => Choice::CallsOut {
                 to,
                 stores,
-                registers: REGISTERS,
+                registers,
             },
             How::Returns(stores) => Choice::Returns {
                 to,
                 stores,
-                registers: REGISTERS,
+                registers,
             },
             How::TailCalls => Choice::TailCalls { to },
             How::IsInterrupted => interrupted(to, to),
             How::ComesTo(gate) => interrupted(gate, to),
             How::Irets => Choice::ReturnsFromInterrupt,
+            How::IretsBehind => Choice::ReturnsFromBreakpoint { to },
             How::Wrecks(wreck) => Choice::Wrecks(wreck),
         }
     }
@@ -138,8 +159,12 @@ fn standing(alloc: Global, from: &From) -> Result<Standing, AllocError> {
         lo: LO,
         bytes: vec![in alloc; 0u8; from.stack.size]?,
     };
+    let other = Region {
+        lo: OTHER_STACK.lo,
+        bytes: vec![in alloc; 0u8; 256]?,
+    };
     let mut memory = Memory {
-        stacks: vec![in alloc; region]?,
+        stacks: vec![in alloc; region, other]?,
     };
     for (address, word) in from.stack.words {
         memory.write_word(*address, *word);
@@ -197,7 +222,11 @@ impl Example {
         how: How,
         to: u32,
     ) -> Result<Option<Machine>, AllocError> {
-        let choice = how.choice(to);
+        let registers = match machine {
+            Machine::At(s) => s.core.registers,
+            Machine::Wrecked => REGISTERS,
+        };
+        let choice = how.choice(to, registers);
         next_state(
             alloc,
             &self.program,

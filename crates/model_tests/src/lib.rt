@@ -6,9 +6,13 @@
 #[cfg(test)]
 mod alternatives;
 #[cfg(test)]
+mod breakpoints;
+#[cfg(test)]
 mod calls;
 #[cfg(test)]
 mod case;
+#[cfg(test)]
+mod copies;
 #[cfg(test)]
 mod exits;
 #[cfg(test)]
@@ -36,7 +40,11 @@ mod operations;
 #[cfg(test)]
 mod options;
 #[cfg(test)]
+mod other_stacks;
+#[cfg(test)]
 mod promises;
+#[cfg(test)]
+mod realigned;
 #[cfg(test)]
 mod sites;
 #[cfg(test)]

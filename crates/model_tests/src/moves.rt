@@ -1,8 +1,8 @@
 //! Worked moves of stack states.
 
-use Told::{At, Framed, Is, Regs};
-use operation_defs::Op;
-use stack_state::{BpHome, Depth, EndKind, State, initial, step};
+use Told::{At, Copied, Drap, Framed, Is, Regs};
+use operation_defs::{DrapRegister, Op};
+use stack_state::{BpHome, Depth, EndKind, Phase, SpCopy, State, initial, step};
 use std::process::Abort;
 
 /// A state as it is told here.
@@ -14,6 +14,10 @@ enum Told {
     Framed(Depth),
     /// Saved registers: all or not, and the depth.
     Regs(bool, i64),
+    /// While rsp is aligned with the frame's top in r10.
+    Drap(Phase),
+    /// With a known depth, rbp the caller's, and a copy of rsp in a register at a depth.
+    Copied(i64, u8, i64),
     /// This one.
     Is(State),
 }
@@ -39,6 +43,19 @@ fn state_of(told: Told) -> State {
             full,
             depth,
             trap: false,
+        },
+        Drap(phase) => State::Drap {
+            reg: DrapRegister::R10,
+            phase,
+        },
+        Copied(depth, reg, of) => State::Live {
+            depth: Depth::Known(depth),
+            fp: None,
+            bp: BpHome::Same,
+            copy: Some(SpCopy {
+                reg,
+                depth: Depth::Known(of),
+            }),
         },
         Is(state) => state,
     }
@@ -287,4 +304,159 @@ fn leaves_ended_stacks(rt: HostRuntime) {
         assert!(rt; moved(UNDEFINED, op) == Ok(UNDEFINED));
         assert!(rt; moved(END, op) == Ok(END));
     }
+}
+
+/// rsp was saved in a cell 16 bytes below the frame's top, and is there.
+const POISED: State = State::Poised {
+    depth: Depth::Known(16),
+    fp: None,
+    bp: BpHome::Same,
+};
+
+const SWITCHED: State = State::Switched {
+    depth: 16,
+    bp: BpHome::Same,
+    fp: None,
+};
+
+const OTHER_STACKS: [Move; 13] = [
+    (At(16, BpHome::Same), Op::CellSp { reg: 11 }, Ok(Is(POISED))),
+    (Framed(Depth::AtLeast(16)), Op::CellSp { reg: 11 }, Err(7)),
+    (Regs(true, 0), Op::CellSp { reg: 11 }, Err(7)),
+    (Is(POISED), Op::SpReg { reg: 11 }, Ok(Is(SWITCHED))),
+    (Is(POISED), Op::Push, Err(7)),
+    (Is(POISED), Op::Nop, Err(7)),
+    (Is(SWITCHED), Op::PopSp, Ok(At(16, BpHome::Same))),
+    (Is(SWITCHED), Op::Push, Err(7)),
+    (Is(SWITCHED), Op::SpReg { reg: 11 }, Err(7)),
+    (Is(SWITCHED), Op::CellSp { reg: 11 }, Err(7)),
+    (Is(SWITCHED), Op::BpOther, Err(8)),
+    (Is(SWITCHED), Op::CallInd, Ok(Is(SWITCHED))),
+    (At(16, BpHome::Same), Op::PopSp, Err(7)),
+];
+
+#[test]
+fn moves_to_other_stacks(rt: HostRuntime) {
+    expect_moves(&rt, &OTHER_STACKS);
+}
+
+const COPIES: [Move; 8] = [
+    (ENTRY, Op::Keep { reg: 1, by: 0 }, Ok(Copied(8, 1, 8))),
+    (ENTRY, Op::Keep { reg: 10, by: 8 }, Ok(Copied(8, 10, 0))),
+    (ENTRY, Op::LeaReg { reg: 1, by: 0 }, Ok(ENTRY)),
+    (Copied(8, 1, 8), Op::Push, Ok(Copied(16, 1, 8))),
+    (Copied(24, 1, 8), Op::BackSp { reg: 1 }, Ok(Copied(8, 1, 8))),
+    (Copied(24, 1, 8), Op::BackSp { reg: 2 }, Err(7)),
+    (ENTRY, Op::BackSp { reg: 1 }, Err(7)),
+    (Copied(24, 5, 8), Op::LeaSpBp { by: 0 }, Ok(Copied(8, 5, 8))),
+];
+
+#[test]
+fn moves_copies(rt: HostRuntime) {
+    expect_moves(&rt, &COPIES);
+}
+
+const R10: DrapRegister = DrapRegister::R10;
+
+const BARE: Told = Drap(Phase::Bare { depth: 8 });
+
+const PUSHED: Told = Drap(Phase::Pushed { size: 8 });
+
+const FRAME: Told = Drap(Phase::Framed { size: 8 });
+
+const HOMED: Told = Drap(Phase::Homed { size: 16, home: 8 });
+
+const REALIGNED: [Move; 30] = [
+    (
+        Copied(8, 10, 0),
+        Op::AndDrap {
+            reg: R10,
+            mask: -16,
+        },
+        Ok(BARE),
+    ),
+    (
+        ENTRY,
+        Op::AndDrap {
+            reg: R10,
+            mask: -16,
+        },
+        Err(9),
+    ),
+    (BARE, Op::Push, Ok(Drap(Phase::Bare { depth: 16 }))),
+    (BARE, Op::PushBp, Ok(Drap(Phase::Pushed { size: 0 }))),
+    (BARE, Op::PushReg { reg: R10 }, Err(9)),
+    (BARE, Op::AddSp { by: 8 }, Err(9)),
+    (BARE, Op::LeaBpSp { by: 0 }, Err(8)),
+    (BARE, Op::BpOther, Err(8)),
+    (BARE, Op::PopBp, Err(8)),
+    (BARE, Op::StoreBp { at: 0 }, Err(9)),
+    (BARE, Op::LeaSpReg { reg: R10, by: -8 }, Ok(ENTRY)),
+    (BARE, Op::LeaSpReg { reg: R10, by: 0 }, Err(9)),
+    (BARE, Op::SpOther, Err(7)),
+    (BARE, Op::SubSp, Err(7)),
+    (BARE, Op::AndSp { mask: -16 }, Err(9)),
+    (PUSHED, Op::LeaBpSp { by: 8 }, Ok(FRAME)),
+    (PUSHED, Op::LeaBpSp { by: 0 }, Err(9)),
+    (PUSHED, Op::AddSp { by: 16 }, Err(11)),
+    (
+        FRAME,
+        Op::PushReg { reg: R10 },
+        Ok(Drap(Phase::Homed { size: 16, home: 16 })),
+    ),
+    (
+        FRAME,
+        Op::PushReg {
+            reg: DrapRegister::R13,
+        },
+        Ok(Drap(Phase::Framed { size: 16 })),
+    ),
+    (FRAME, Op::Leave, Ok(BARE)),
+    (
+        FRAME,
+        Op::RegOther {
+            r10: true,
+            r13: false,
+        },
+        Err(9),
+    ),
+    (
+        FRAME,
+        Op::RegOther {
+            r10: false,
+            r13: true,
+        },
+        Ok(FRAME),
+    ),
+    (
+        FRAME,
+        Op::LeaSpBp { by: -16 },
+        Ok(Drap(Phase::Framed { size: 16 })),
+    ),
+    (FRAME, Op::PopBp, Err(11)),
+    (
+        HOMED,
+        Op::AddSp { by: 8 },
+        Ok(Drap(Phase::Homed { size: 8, home: 8 })),
+    ),
+    (HOMED, Op::AddSp { by: 16 }, Err(11)),
+    (
+        HOMED,
+        Op::LoadReg { reg: R10, at: -8 },
+        Ok(Drap(Phase::Framed { size: 16 })),
+    ),
+    (
+        HOMED,
+        Op::RegOther {
+            r10: true,
+            r13: false,
+        },
+        Ok(HOMED),
+    ),
+    (HOMED, Op::Leave, Err(11)),
+];
+
+#[test]
+fn moves_while_rsp_is_aligned(rt: HostRuntime) {
+    expect_moves(&rt, &REALIGNED);
 }
