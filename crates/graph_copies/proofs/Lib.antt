@@ -6,3 +6,8 @@ pub mod Owners
 pub mod Changing
 pub mod Remade
 pub mod Makes
+pub mod Singles
+pub mod Marking
+pub mod Numbering
+pub mod Listing
+pub mod Flowing

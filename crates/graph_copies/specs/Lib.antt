@@ -4,3 +4,6 @@ pub mod Cells
 pub mod Rooms
 pub mod Changes
 pub mod Makings
+pub mod Steps
+pub mod Tables
+pub mod Rows

@@ -4,9 +4,13 @@
 mod adding;
 mod asking;
 mod cells;
+mod fixups;
+mod flow;
 mod making;
 mod remaking;
 mod rooms;
+mod steps;
+mod tables;
 
 pub use adding::add_copies;
 pub use asking::asks;
