@@ -2,7 +2,7 @@
 use Rattle.std.proofs.Common.{◌≡◌, ℕ, true, false, Option, Some, None, sym, ap, ◌∙◌, subst}
 use Rattle.state_defs.specs.declared.state.EndKind.{EndKind}
 use Rattle.state_defs.specs.declared.state.State.{State}
-use Rattle.state_defs.specs.declared.state.State.TheVariants.{Live, Ended, Regs}
+use Rattle.state_defs.specs.declared.state.State.TheVariants.{Live, Ended, Regs, Poised, Switched, Drap}
 use Rattle.machine_defs.specs.Program.{Program}
 use Rattle.machine_defs.specs.Kept.{AreKeptStates, Kept}
 use Rattle.machine_defs.specs.Step.{is_firm, is_lost, is_kept}
@@ -10,9 +10,12 @@ use Rattle.machine_model.specs.Ended.{IsEndBehind, end_told}
 
 told_ended : (o : Option State) (kind : EndKind) → end_told o ≡ Some kind → o ≡ Some (Ended kind)
 told_ended None kind e = absurd (let z : ⊥ = cc in z)
-told_ended (Some (Live depth fp bp)) kind e = absurd (let z : ⊥ = cc in z)
+told_ended (Some (Live depth fp bp copy)) kind e = absurd (let z : ⊥ = cc in z)
 told_ended (Some (Ended k)) kind e = let same : k ≡ kind = cc in ap (λ (x : EndKind). Some (Ended x)) same
-told_ended (Some (Regs full depth)) kind e = absurd (let z : ⊥ = cc in z)
+told_ended (Some (Regs full depth trap)) kind e = absurd (let z : ⊥ = cc in z)
+told_ended (Some (Poised depth fp bp)) kind e = absurd (let z : ⊥ = cc in z)
+told_ended (Some (Switched depth bp fp)) kind e = absurd (let z : ⊥ = cc in z)
+told_ended (Some (Drap reg phase)) kind e = absurd (let z : ⊥ = cc in z)
 
 told_none : (o : Option State) (kind : EndKind) → end_told o ≡ None → o ≡ Some (Ended kind) → ⊥
 told_none o kind e is = let k : Some kind ≡ None = subst (λ (x : Option State). end_told x ≡ None) is e in let z : ⊥ = cc in z

@@ -7,13 +7,11 @@ use Rattle.std.proofs.lemmas.Simd.{map-map}
 use Rattle.std.proofs.lemmas.List.Concat.{flat_map-append}
 use Rattle.std.proofs.lemmas.List.Elements.{All-map, All-weaker, All-same}
 use Rattle.state_defs.specs.declared.state.EndKind.{EndKind}
-use Rattle.state_defs.specs.Region.{Holds}
-use Rattle.state_defs.specs.Frame.{Frame, Protected, protected, protected_addresses, listed, AreKept}
+use Rattle.state_defs.specs.Region.{Memory, Stack, Holds}
+use Rattle.state_defs.specs.Frame.{Frame, Protected, protected, protected_addresses, listed, IsAboveIn, AreKept}
 use Rattle.machine_model.specs.declared.frame.Frame.{Frame as OwnFrame}
 use Rattle.machine_model.specs.declared.frame.Protected.{Protected as OwnProtected}
-use Rattle.program_model.specs.declared.region.Region.{Region as OwnRegion}
 use Rattle.machine_model.specs.Frame.{frame_of, frames_of, protected_of, words_of, IsWordKept}
-use Rattle.program_model.specs.Region.{region_of}
 
 -- one more frame's words behind those of the frames before it
 pub protected_more : (frames : List OwnFrame) (i : ℕ) (f d : OwnFrame) (slots words after : List OwnProtected) → i < length frames → f ≡ get_or frames i d
@@ -28,11 +26,11 @@ protected_more frames i f d slots words after lt is before own appended =
     left ∙ sym (right ∙ ap (λ (x : List Protected). flat_map protected (frames_of (take i frames)) ++ x) (append-nil (protected (frame_of f))))
 
 -- words that are kept are those of frames that are
-pub words_kept : (rsp : ℕ) (r : OwnRegion) (frames : List OwnFrame) (words : List OwnProtected) → words_of words ≡ flat_map protected (frames_of frames)
-    → All (IsWordKept rsp r) words → AreKept rsp (region_of r) (frames_of frames)
-words_kept rsp r frames words same kept = record {
-  above = All-same (λ (w : Protected). rsp ≤ w.at) _ _ (sym same) (All-map (λ (w : Protected). rsp ≤ w.at) protected_of words (All-weaker (IsWordKept rsp r) (λ (w : OwnProtected). rsp ≤ w.at) (λ w k. k.above) words kept));
-  hold = All-same (λ (w : Protected). Holds (region_of r) w.at w.value) _ _ (sym same) (All-map (λ (w : Protected). Holds (region_of r) w.at w.value) protected_of words (All-weaker (IsWordKept rsp r) (λ (w : OwnProtected). Holds (region_of r) w.at w.value) (λ w k. k.holds) words kept));
+pub words_kept : (stack : Stack) (rsp : ℕ) (memory : Memory) (frames : List OwnFrame) (words : List OwnProtected) → words_of words ≡ flat_map protected (frames_of frames)
+    → All (IsWordKept stack rsp memory) words → AreKept stack rsp memory (frames_of frames)
+words_kept stack rsp memory frames words same kept = record {
+  above = All-same (λ (w : Protected). IsAboveIn stack rsp w.at) _ _ (sym same) (All-map (λ (w : Protected). IsAboveIn stack rsp w.at) protected_of words (All-weaker (IsWordKept stack rsp memory) (λ (w : OwnProtected). IsAboveIn stack rsp w.at) (λ w k. k.above) words kept));
+  hold = All-same (λ (w : Protected). Holds memory w.at w.value) _ _ (sym same) (All-map (λ (w : Protected). Holds memory w.at w.value) protected_of words (All-weaker (IsWordKept stack rsp memory) (λ (w : OwnProtected). Holds memory w.at w.value) (λ w k. k.holds) words kept));
 }
 
 -- one more listed frame: that of the top, over those of the rest

@@ -8,13 +8,13 @@ use Rattle.machine_defs.specs.Step.{MissesReturn, no_return, return_in_interrupt
 use Rattle.machine_model.specs.declared.frame.Frame.{Frame as OwnFrame}
 use Rattle.machine_model.specs.Frame.{frames_of}
 
-pub return_missed : (core : Core) (f : Frame) (fs : List Frame) → (is_of_call f.slot ≡ false) ⊎ (((word : ℕ) × Reads core.region core.rsp word × (word ≢ f.ra)) ⊎ ((core.rsp ≢ down f.cfa 8) ⊎ (core.rbp ≢ f.bp))) → MissesReturn core (f ∷ fs)
+pub return_missed : (core : Core) (f : Frame) (fs : List Frame) → (is_of_call f.slot ≡ false) ⊎ (((word : ℕ) × Reads core.memory core.rsp word × (word ≢ f.ra)) ⊎ ((core.rsp ≢ down f.cfa 8) ⊎ (core.rbp ≢ f.bp))) → MissesReturn core (f ∷ fs)
 return_missed core f fs (inl h) = return_in_interrupt f fs h
 return_missed core f fs (inr (inl h)) = other_return f fs h.0 h.1 h.2
 return_missed core f fs (inr (inr (inl h))) = other_depth f fs h
 return_missed core f fs (inr (inr (inr h))) = other_rbp f fs h
 
-pub iret_missed : (core : Core) (f : Frame) (fs : List Frame) → (is_of_call f.slot ≡ true) ⊎ (((word : ℕ) × Reads core.region core.rsp word × (word ≢ f.ra)) ⊎ (((word : ℕ) × Reads core.region (up core.rsp 24) word × (word ≢ f.cfa)) ⊎ (core.rbp ≢ f.bp))) → MissesIret core (f ∷ fs)
+pub iret_missed : (core : Core) (f : Frame) (fs : List Frame) → (is_of_call f.slot ≡ true) ⊎ (((word : ℕ) × Reads core.memory core.rsp word × (word ≢ f.ra)) ⊎ (((word : ℕ) × Reads core.memory (up core.rsp 24) word × (word ≢ f.cfa)) ⊎ (core.rbp ≢ f.bp))) → MissesIret core (f ∷ fs)
 iret_missed core f fs (inl h) = iret_in_call f fs h
 iret_missed core f fs (inr (inl h)) = other_address f fs h.0 h.1 h.2
 iret_missed core f fs (inr (inr (inl h))) = other_rsp f fs h.0 h.1 h.2

@@ -2,7 +2,7 @@
 use Rattle.std.specs.Prelude.{◌≡◌, ℕ, Option, Some, None, slice_index_or}
 use Rattle.state_defs.specs.declared.state.EndKind.{EndKind}
 use Rattle.state_defs.specs.declared.state.State.{State}
-use Rattle.state_defs.specs.declared.state.State.TheVariants.{Live, Ended, Regs}
+use Rattle.state_defs.specs.declared.state.State.TheVariants.{Live, Ended, Regs, Poised, Switched, Drap}
 use Rattle.machine_defs.specs.Program.{Program}
 use Rattle.machine_defs.specs.Kept.{AreKeptStates}
 use Rattle.machine_defs.specs.Machine.{Standing}
@@ -18,9 +18,12 @@ IsKeptOf p kept = AreKeptStates (program_of p kept.may_return.items) (λ q. slic
 -- how a state, if one is kept, says that the stack has ended
 abbrev pub end_told : Option State → Option EndKind
 end_told None = None
-end_told (Some (Live depth fp bp)) = None
+end_told (Some (Live depth fp bp copy)) = None
 end_told (Some (Ended kind)) = Some kind
-end_told (Some (Regs full depth)) = None
+end_told (Some (Regs full depth trap)) = None
+end_told (Some (Poised depth fp bp)) = None
+end_told (Some (Switched depth bp fp)) = None
+end_told (Some (Drap reg phase)) = None
 
 -- behind an instruction at one point, with this end of the stack, it has this end at another
 abbrev pub IsEndBehind : Program → ℕ → Option EndKind → ℕ → Option EndKind → Type 0

@@ -1,6 +1,10 @@
 pub mod Slot
+pub mod Told
+pub mod Ending
 pub mod Frame
 pub mod Standing
+pub mod Outside
+pub mod Effect
 pub mod Hint
 pub mod Called
 pub mod Left

@@ -9,10 +9,10 @@ use Rattle.machine_model.specs.Standing.{machine_of}
 
 -- there is a step to what the hint there makes of the state
 abbrev pub LeadsTo : Program → Bases → Standing → Standing → Type 0
-LeadsTo p bases s t = (u : Standing) → Lands p t u → Step p bases (At s) (At u)
+LeadsTo p bases s t = (u : Standing) → Lands p bases t u → Step p bases (At s) (At u)
 
 -- the hint there makes this machine of the state
-pub record LandsAs (p : Program) (t : Standing) (m : OwnMachine) : Type 0 where
+pub record LandsAs (p : Program) (bases : Bases) (t : Standing) (m : OwnMachine) : Type 0 where
   pub after : Standing
   pub at : machine_of m ≡ At after
-  pub lands : Lands p t after
+  pub lands : Lands p bases t after

@@ -1,21 +1,22 @@
 //! Calls.
 
-ghost use Rattle.std.specs.Prelude.{◌≡◌, ◌≤◌, ◌^◌, true, IfOk, IfSome, IsTrue, List, Bool};
-ghost use Rattle.state_defs.specs.Region.{hi_of};
+ghost use Rattle.std.specs.Prelude.{◌≡◌, true, IfOk, IfSome, IsTrue, List, Bool};
 ghost use Rattle.machine_defs.specs.Step.{IsTarget, CallsIn, CallsOut};
 ghost use Rattle.machine_defs.specs.MayReturn.{calls_outside};
 ghost use Rattle.machine_defs.specs.Ways.{comes_back_as_outside, may_call_out};
-ghost use Rattle.program_model.specs.Region.{region_of};
+ghost use Rattle.program_model.specs.Region.{IsInSpace, memory_of};
 ghost use Rattle.machine_model.specs.Standing.{standing_of};
 ghost use Rattle.program_model.specs.Program.{program_of};
 ghost use Rattle.program_model.specs.Placement.{bases_of};
 ghost use Rattle.machine_model.specs.Frame.{frame_of};
 ghost use Rattle.machine_model.specs.Called.{frame_called, goes_out, IsCalled};
 
-use crate::effect::store_ordinarily;
-use crate::frame::Frame;
+use crate::effect::store_alone;
+use crate::frame::{Frame, Held, Registers};
+use crate::registers::gives_back;
 use crate::slot::Slot;
 use crate::standing::Standing;
+use crate::told::Told;
 use machine_defs::Role;
 use program_model::{Kept, Program, Store, down, is_listed, return_address, target_may_return};
 use std::alloc::{AllocError, Global};
@@ -36,12 +37,19 @@ fn may_call(p: &Program, role: Role, target: u32) -> bool
 fn call_frame(s: &Standing, ra: u64) -> Frame
     ensures { frame_of result ≡ frame_called (standing_of s.now) ra }
 {
+    let registers = s.core.registers;
     Frame {
         call: Some(s.point),
         ra,
         cfa: s.core.rsp,
         bp: s.core.rbp,
+        registers,
+        stack: s.core.stack,
+        held: s.core.held,
         slot: Slot::Unsaved,
+        cell: None,
+        told: Told::Untold,
+        trap: false,
         ac: s.core.ac,
         ended_caller: s.ended,
         mark_caller: s.mark,
@@ -57,7 +65,8 @@ fn called(s: Standing, ra: u64, at: u32) -> Result<Standing, AllocError>
     let rsp = down(s.core.rsp, 8);
     s.core.shadow.insert(0, frame)?;
     s.core.rsp = rsp;
-    s.core.region.write_word(rsp, ra);
+    s.core.memory.write_word(rsp, ra);
+    s.core.held = Held::Nothing;
     s.point = at;
     s.ended = None;
     s.mark = None;
@@ -72,7 +81,7 @@ pub fn calls_in(
     entry: u32,
     at: u32,
 ) -> Result<Option<Standing>, AllocError>
-    ensures { (set : List Bool) → IfOk result (λ called. IfSome called (λ t. hi_of (region_of s.core.region) ≤ 2 ^ 64 → CallsIn (program_of p.now set) (bases_of placement.now) (standing_of s) (standing_of t))) }
+    ensures { (set : List Bool) → IfOk result (λ called. IfSome called (λ t. IsInSpace (memory_of s.core.memory) → CallsIn (program_of p.now set) (bases_of placement.now) (standing_of s) (standing_of t))) }
 {
     if !may_call(p, p.role(s.point), entry) || !p.enters(entry, at) {
         return Ok(None);
@@ -119,7 +128,8 @@ fn may_call_out(p: &Program, set: &[bool], q: u32) -> bool
     !is_listed(p, q) && (calls_outside(role) || comes_back_as_outside(p, set, q, role))
 }
 
-/// It calls code outside, or what comes back as that does: it keeps rsp, rbp, user access and protected slots.
+/// It calls code outside, or what comes back as that does: it keeps rsp, rbp, user access and protected slots, and gives registers
+/// back.
 pub fn calls_out(
     alloc: Global,
     p: &Program,
@@ -127,11 +137,15 @@ pub fn calls_out(
     s: Standing,
     to: u32,
     stores: &[Store],
+    registers: Registers,
 ) -> Result<Option<Standing>, AllocError>
     ensures { IfOk result (λ called. IfSome called (λ t. CallsOut (program_of p.now kept.now.may_return.items) (standing_of s) (standing_of t))) }
 {
     let is_out = may_call_out(p, kept.may_return.as_slice(), s.point);
     if !is_out || p.is_dead_end(s.point) || !p.follows(s.point, to) {
+        return Ok(None);
+    }
+    if !gives_back(&s.core.registers, &registers) {
         return Ok(None);
     }
     let Standing {
@@ -140,7 +154,7 @@ pub fn calls_out(
         mark,
         ..
     } = s;
-    match store_ordinarily(alloc, core, stores)? {
+    match store_alone(alloc, core, stores, registers)? {
         None => Ok(None),
         Some(core) => Ok(Some(Standing {
             point: to,

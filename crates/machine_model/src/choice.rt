@@ -1,17 +1,24 @@
+use crate::frame::Registers;
 use machine_defs::Edge;
-use program_model::Store;
+use program_model::{Stack, Store};
 
 /// What a definition lets be anything: a run chooses it.
 #[derive(Clone, Copy)]
 pub struct Anything<'a> {
     /// The bytes that ordinary stores write.
     pub stores: &'a [Store],
-    /// A word that is pushed, or read outside the stack.
+    /// A word that is pushed, or read outside the stacks.
     pub word: u64,
     /// rsp, where it is written in another way, or room is made.
     pub rsp: u64,
     /// rbp, where it is written in another way.
     pub rbp: u64,
+    /// The other general registers behind the instruction.
+    pub registers: Registers,
+    /// The address of another stack at which rsp is saved.
+    pub cell: u64,
+    /// That stack.
+    pub other: Stack,
     /// User access, where flags are popped.
     pub ac: bool,
 }
@@ -53,25 +60,28 @@ pub enum Choice<'a> {
         edge: Edge,
         any: Anything<'a>,
     },
-    /// It faults, and goes to the fixup at this point.
+    /// It faults, and goes to the fixup at this point, with these general registers.
     Faults {
         to: u32,
         stores: &'a [Store],
+        registers: Registers,
     },
     /// It calls this entry, and control stands at this point there.
     CallsIn {
         entry: u32,
         at: u32,
     },
-    /// It calls code outside, or what comes back as that does, which returns to this point.
+    /// It calls code outside, or what comes back as that does, which returns to this point, with these general registers.
     CallsOut {
         to: u32,
         stores: &'a [Store],
+        registers: Registers,
     },
-    /// It returns to this point of the caller.
+    /// It returns to this point of the caller, with these general registers.
     Returns {
         to: u32,
         stores: &'a [Store],
+        registers: Registers,
     },
     /// It jumps to another function, at this point.
     TailCalls {
@@ -79,7 +89,7 @@ pub enum Choice<'a> {
     },
     /// Its stack is wrecked.
     Wrecks(Wreck),
-    /// An interrupt comes to this gate, and control stands at this point there.
+    /// An interrupt comes to this gate, or a breakpoint is executed and goes there, and control stands at this point there.
     IsInterrupted {
         gate: u32,
         at: u32,
@@ -87,4 +97,8 @@ pub enum Choice<'a> {
     },
     /// It returns from an interrupt.
     ReturnsFromInterrupt,
+    /// It returns from a breakpoint, to this point behind it.
+    ReturnsFromBreakpoint {
+        to: u32,
+    },
 }

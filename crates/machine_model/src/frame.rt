@@ -1,9 +1,46 @@
 ghost use Rattle.std.specs.Prelude.{◌≡◌};
 
 use crate::slot::Slot;
-use program_model::{down, up};
+use crate::told::Told;
+use program_model::{Stack, down, up};
 use state_defs::EndKind;
 use std::alloc::{AllocError, Global};
+
+/// The numbers in the general registers, by their numbers; those of rsp and rbp stand apart.
+pub type Registers = [u64; 16];
+
+/// What the instruction before has left for the next.
+#[derive(Clone, Copy, PartialEq)]
+pub enum Held {
+    /// Nothing.
+    Nothing,
+    /// The cell of another stack, at an address of it, in which it saved rsp.
+    Cell { at: u64, stack: Stack },
+    /// A register to which it copied rbp.
+    Bp { reg: u8 },
+}
+
+/// A word of memory that a walk needs.
+#[derive(Clone, Copy, PartialEq)]
+pub struct Protected {
+    /// Its address.
+    pub at: u64,
+    /// What it holds.
+    pub value: u64,
+}
+
+/// What a frame keeps, and where.
+#[derive(Clone, Copy, PartialEq)]
+pub struct Keeping {
+    /// Its slot.
+    pub slot: Slot,
+    /// The cell of another stack in which its function saved rsp, before it went there.
+    pub cell: Option<Protected>,
+    /// Where its top is told.
+    pub told: Told,
+    /// Whether it is that of a breakpoint.
+    pub trap: bool,
+}
 
 /// The last SAVE hint passed on a level, and what stood there.
 #[derive(Clone, Copy)]
@@ -14,8 +51,14 @@ pub struct Mark {
     pub rsp: u64,
     /// rbp there.
     pub rbp: u64,
-    /// The top frame's slot there, where there was a frame.
-    pub slot: Option<Slot>,
+    /// The other registers there.
+    pub registers: Registers,
+    /// The stack that was in use there.
+    pub stack: Stack,
+    /// What was held there.
+    pub held: Held,
+    /// What the top frame kept there, where there was a frame.
+    pub keeping: Option<Keeping>,
     /// What had ended the stack there.
     pub ended: Option<EndKind>,
 }
@@ -32,23 +75,26 @@ pub struct Frame {
     pub cfa: u64,
     /// The caller's rbp.
     pub bp: u64,
+    /// The other registers when it was made.
+    pub registers: Registers,
+    /// The stack in which it was made.
+    pub stack: Stack,
+    /// What was held when it was made.
+    pub held: Held,
     /// Its kind, and where it keeps what.
     pub slot: Slot,
+    /// The cell of another stack in which its function saved rsp, before it went there.
+    pub cell: Option<Protected>,
+    /// Where its top is told.
+    pub told: Told,
+    /// Whether it is that of a breakpoint.
+    pub trap: bool,
     /// Whether user access was on when it was made.
     pub ac: bool,
     /// What had ended the stack of the level below.
     pub ended_caller: Option<EndKind>,
     /// The mark of the level below.
     pub mark_caller: Option<Mark>,
-}
-
-/// A word of memory that a walk needs.
-#[derive(Clone, Copy)]
-pub struct Protected {
-    /// Its address.
-    pub at: u64,
-    /// What it holds.
-    pub value: u64,
 }
 
 fn word(at: u64, value: u64) -> Protected
@@ -59,12 +105,26 @@ fn word(at: u64, value: u64) -> Protected
 
 impl Frame {
     ghost use Rattle.std.specs.Prelude.{◌≡◌, IfOk};
-    ghost use Rattle.state_defs.specs.Frame.{protected};
-    ghost use Rattle.machine_model.specs.Frame.{frame_of, words_of};
+    ghost use Rattle.state_defs.specs.Frame.{keeping_of, protected, protected_by, protected_cell, protected_top};
+    ghost use Rattle.machine_model.specs.Slot.{slot_of};
+    ghost use Rattle.machine_model.specs.Told.{told_of};
+    ghost use Rattle.machine_model.specs.Frame.{cell_of, frame_of, own_keeping, words_of};
 
-    /// The protected slots of the frame, by its kind.
-    pub fn protected(&self, alloc: Global) -> Result<Vec<Protected>, AllocError>
-        ensures { IfOk result (λ words. words_of words.items ≡ protected (frame_of self.now)) }
+    /// What it keeps.
+    pub fn keeping(&self) -> Keeping
+        ensures { own_keeping result ≡ keeping_of (frame_of self.now) }
+    {
+        Keeping {
+            slot: self.slot,
+            cell: self.cell,
+            told: self.told,
+            trap: self.trap,
+        }
+    }
+
+    /// The protected slots that its slot tells, by the frame's kind.
+    fn protected_by(&self, alloc: Global) -> Result<Vec<Protected>, AllocError>
+        ensures { IfOk result (λ words. words_of words.items ≡ protected_by (slot_of self.now.slot) self.now.ra self.now.cfa self.now.bp) }
     {
         let ra = word(down(self.cfa, 8), self.ra);
         Ok(match self.slot {
@@ -77,5 +137,36 @@ impl Frame {
                 word(up(a, 152), self.cfa),
             ]?,
         })
+    }
+
+    /// The cell in another stack.
+    fn protected_cell(&self, alloc: Global) -> Result<Vec<Protected>, AllocError>
+        ensures { IfOk result (λ words. words_of words.items ≡ protected_cell (cell_of self.now.cell)) }
+    {
+        match self.cell {
+            None => Ok(Vec::new(alloc)),
+            Some(cell) => Ok(vec![in alloc; cell]?),
+        }
+    }
+
+    /// The word that tells its top.
+    fn protected_top(&self, alloc: Global) -> Result<Vec<Protected>, AllocError>
+        ensures { IfOk result (λ words. words_of words.items ≡ protected_top (told_of self.now.told) self.now.cfa) }
+    {
+        match self.told {
+            Told::Untold | Told::In(_) => Ok(Vec::new(alloc)),
+            Told::At(_, home) => Ok(vec![in alloc; word(home, self.cfa)]?),
+        }
+    }
+
+    /// The protected slots of the frame: its slot's, its cell, and the word that tells its top.
+    pub fn protected(&self, alloc: Global) -> Result<Vec<Protected>, AllocError>
+        ensures { IfOk result (λ words. words_of words.items ≡ protected (frame_of self.now)) }
+    {
+        let mut words = self.protected_by(alloc)?;
+        let mut rest = self.protected_cell(alloc)?;
+        rest.extend_from_slice(self.protected_top(alloc)?.as_slice())?;
+        words.extend_from_slice(rest.as_slice())?;
+        Ok(words)
     }
 }

@@ -1,18 +1,19 @@
 //! Steps within a function, and from one function to another by a jump.
 
-ghost use Rattle.std.specs.Prelude.{◌≡◌, ◌≤◌, ◌^◌, IfOk, IfSome, IsTrue, List, Bool};
-ghost use Rattle.state_defs.specs.Region.{hi_of};
+ghost use Rattle.std.specs.Prelude.{◌≡◌, IfOk, IfSome, IsTrue, List, Bool};
 ghost use Rattle.machine_defs.specs.Program.{is_local};
 ghost use Rattle.machine_defs.specs.Step.{GoesOn, Faults, JumpsTo, TailCalls};
-ghost use Rattle.program_model.specs.Region.{region_of};
+ghost use Rattle.program_model.specs.Region.{IsInSpace, memory_of};
 ghost use Rattle.machine_model.specs.Ended.{IsEndBehind, IsKeptOf, end_told};
 ghost use Rattle.machine_model.specs.Standing.{standing_of};
 ghost use Rattle.program_model.specs.Program.{program_of};
 
 use crate::acting::op_at;
 use crate::choice::Anything;
-use crate::effect::{effect, store_ordinarily};
+use crate::effect::{effect, store_alone};
+use crate::frame::{Held, Registers};
 use crate::leaving::ends_run;
+use crate::registers::spares_registers;
 use crate::standing::Standing;
 use machine_defs::{Edge, EdgeKind, Role};
 use program_model::{Kept, Program, Store, is_call};
@@ -67,12 +68,15 @@ pub fn goes_on(
     edge: Edge,
     any: &Anything<'_>,
 ) -> Result<Option<Standing>, AllocError>
-    ensures { IsKeptOf p.now kept.now → IfOk result (λ gone. IfSome gone (λ t. hi_of (region_of s.core.region) ≤ 2 ^ 64 → GoesOn (program_of p.now kept.now.may_return.items) (standing_of s) (standing_of t))) }
+    ensures { IsKeptOf p.now kept.now → IfOk result (λ gone. IfSome gone (λ t. IsInSpace (memory_of s.core.memory) → GoesOn (program_of p.now kept.now.may_return.items) (standing_of s) (standing_of t))) }
 {
     if is_call(p.role(s.point)) || !is_local(edge.kind) || !p.has_edge(s.point, edge) {
         return Ok(None);
     }
     let op = op_at(p, &s);
+    if !spares_registers(p.insn(s.point), &s.core.registers, &any.registers) {
+        return Ok(None);
+    }
     let ended = ended_behind(p, kept, s.point, s.ended, edge.to);
     let Standing { core, mark, .. } = s;
     match effect(alloc, op, core, any)? {
@@ -86,13 +90,14 @@ pub fn goes_on(
     }
 }
 
-/// It faults, and goes to its fixup. Ordinary stores may happen.
+/// It faults, and goes to its fixup. Ordinary stores may happen, and general registers become these.
 pub fn faults(
     alloc: Global,
     p: &Program,
     s: Standing,
     to: u32,
     stores: &[Store],
+    registers: Registers,
 ) -> Result<Option<Standing>, AllocError>
     ensures { (set : List Bool) → IfOk result (λ gone. IfSome gone (λ t. Faults (program_of p.now set) (standing_of s) (standing_of t))) }
 {
@@ -106,7 +111,7 @@ pub fn faults(
         mark,
         ..
     } = s;
-    match store_ordinarily(alloc, core, stores)? {
+    match store_alone(alloc, core, stores, registers)? {
         None => Ok(None),
         Some(core) => Ok(Some(Standing {
             point: to,
@@ -140,5 +145,6 @@ pub fn tail_calls(p: &Program, s: Standing, to: u32) -> Option<Standing>
     }
     let mut s = s;
     s.point = to;
+    s.core.held = Held::Nothing;
     Some(s)
 }

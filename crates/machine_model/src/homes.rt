@@ -70,7 +70,9 @@ pub fn homes_after(
     Ok(Some(match choice {
         Choice::CallsIn { entry, .. } => with_top(alloc, allowed.is_safe(p, *entry), homes)?,
         Choice::TailCalls { to } => { with_top(alloc, allowed.is_safe(p, *to), below_top(homes))? }
-        Choice::Returns { .. } | Choice::ReturnsFromInterrupt => below_top(homes).to_vec(alloc)?,
+        Choice::Returns { .. }
+        | Choice::ReturnsFromInterrupt
+        | Choice::ReturnsFromBreakpoint { .. } => below_top(homes).to_vec(alloc)?,
         Choice::GoesOn { .. }
         | Choice::Faults { .. }
         | Choice::CallsOut { .. }

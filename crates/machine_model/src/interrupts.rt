@@ -2,19 +2,20 @@
 
 ghost use Rattle.std.specs.Prelude.{◌∷◌, IfSome, IsTrue, List, Bool};
 ghost use Rattle.state_defs.specs.Frame.{Frame as DefinedFrame};
-ghost use Rattle.machine_defs.specs.Step.{IsAtIret, MissesIret, ReturnsFromInterrupt};
-ghost use Rattle.machine_model.specs.Frame.{frame_of, frames_of};
+ghost use Rattle.machine_defs.specs.Step.{IsAtIret, MissesIret, ReturnsFromInterrupt, ReturnsFromBreakpoint};
+ghost use Rattle.machine_model.specs.Frame.{frame_of, frames_of, held_of};
 ghost use Rattle.machine_model.specs.Standing.{core_of, standing_of};
 ghost use Rattle.program_model.specs.Program.{program_of};
-ghost use Rattle.machine_model.specs.Left.{IsResumed};
+ghost use Rattle.machine_model.specs.Left.{IsIretFrom, IsResumed};
 
 use crate::choice::InterruptWords;
-use crate::frame::Frame;
+use crate::frame::{Frame, Held};
 use crate::returns::pop_frame;
 use crate::slot::Slot;
 use crate::standing::{Core, Standing};
+use crate::told::Told;
 use operation_defs::Op;
-use program_model::{Program, down, point_address, up};
+use program_model::{Program, down, point_address, return_address, up};
 use state_defs::{HintState, State};
 use std::alloc::AllocError;
 use table_defs::Range;
@@ -29,10 +30,10 @@ fn counts_for_each(p: &Program, gate: u32) -> bool {
     })
 }
 
-/// How many bytes the processor pushes below the five words at a gate: those of an error code, 8, or
-/// none. A gate is a plain point without owner, and in no site past its start, whose hint says so and counts for each of the
+/// How many bytes the processor pushes below the five words at a gate, those of an error code, 8, or
+/// none; and whether the gate is one for breakpoints. A gate is a plain point without owner, and in no site past its start, whose hint says so and counts for each of the
 /// site's variants.
-fn gate_bytes(p: &Program, gate: u32) -> Option<u64> {
+fn gate_bytes(p: &Program, gate: u32) -> Option<(u64, bool)> {
     let point = p.point(gate)?;
     let is_inside = p
         .site_at(point.place)
@@ -46,17 +47,19 @@ fn gate_bytes(p: &Program, gate: u32) -> Option<u64> {
                 State::Regs {
                     full: false,
                     depth: 0,
+                    trap,
                 },
             ),
-        ) => Some(0),
+        ) => Some((0, trap)),
         Some(
             HintState::Set(
                 State::Regs {
                     full: false,
                     depth: 8,
+                    trap,
                 },
             ),
-        ) => Some(8),
+        ) => Some((8, trap)),
         _ => None,
     }
 }
@@ -66,14 +69,21 @@ fn interrupt_slot(rsp: u64) -> u64 {
     down(rsp - rsp % 16, 40)
 }
 
-/// The frame that an interrupt makes, at this address of the interrupted instruction.
-fn interrupt_frame(s: &Standing, ra: u64) -> Frame {
+/// The frame that an interrupt makes, or a breakpoint, with this address to which it goes back.
+fn interrupt_frame(s: &Standing, ra: u64, trap: bool) -> Frame {
+    let registers = s.core.registers;
     Frame {
         call: Some(s.point),
         ra,
         cfa: s.core.rsp,
         bp: s.core.rbp,
+        registers,
+        stack: s.core.stack,
+        held: s.core.held,
         slot: Slot::PartialAt(interrupt_slot(s.core.rsp)),
+        cell: None,
+        told: Told::Untold,
+        trap,
         ac: s.core.ac,
         ended_caller: s.ended,
         mark_caller: s.mark,
@@ -86,15 +96,27 @@ fn push_words(core: &mut Core, ra: u64, n: u64, words: &InterruptWords) {
     let rsp = core.rsp;
     let pushed = [ra, words.cs, words.flags, rsp, words.ss];
     if n == 8 {
-        core.region.write_word(down(slot, 8), words.error);
+        core.memory.write_word(down(slot, 8), words.error);
     }
     for (i, word) in pushed.iter().enumerate() {
-        core.region.write_word(up(slot, 8 * i as u64), *word);
+        core.memory.write_word(up(slot, 8 * i as u64), *word);
     }
     core.rsp = down(slot, n);
 }
 
-/// An interrupt comes, at any point, and goes to a gate, where control stands at this point.
+/// Where an interrupt at a point goes back to; a breakpoint has been executed, and goes back behind itself.
+fn interrupt_address(p: &Program, placement: &[Range], trap: bool, q: u32) -> Option<u64> {
+    if !trap {
+        return point_address(p, placement, q);
+    }
+    match p.insn(q).op {
+        Op::Int3 => return_address(p, placement, q),
+        _ => None,
+    }
+}
+
+/// An interrupt comes, at any point, and goes to a gate, or a breakpoint is executed and goes to one for breakpoints, where control
+/// stands at this point.
 pub fn is_interrupted(
     p: &Program,
     placement: &[Range],
@@ -102,19 +124,20 @@ pub fn is_interrupted(
     (gate, at): (u32, u32),
     words: &InterruptWords,
 ) -> Result<Option<Standing>, AllocError> {
-    let Some(n) = gate_bytes(p, gate) else {
+    let Some((n, trap)) = gate_bytes(p, gate) else {
         return Ok(None);
     };
     if !p.enters(gate, at) {
         return Ok(None);
     }
-    let Some(ra) = point_address(p, placement, s.point) else {
+    let Some(ra) = interrupt_address(p, placement, trap, s.point) else {
         return Ok(None);
     };
     let mut s = s;
-    let frame = interrupt_frame(&s, ra);
+    let frame = interrupt_frame(&s, ra, trap);
     s.core.shadow.insert(0, frame)?;
     push_words(&mut s.core, ra, n, words);
+    s.core.held = Held::Nothing;
     s.point = at;
     s.ended = None;
     s.mark = None;
@@ -126,8 +149,8 @@ fn is_at_iret(core: &Core, frame: &Frame) -> bool
     ensures { IsTrue result → IsAtIret (core_of core.now) (frame_of frame.now) }
 {
     !frame.slot.is_of_call()
-        && core.region.may_read(core.rsp, frame.ra)
-        && core.region.may_read(up(core.rsp, 24), frame.cfa)
+        && core.memory.may_read(core.rsp, frame.ra)
+        && core.memory.may_read(up(core.rsp, 24), frame.cfa)
         && core.rbp == frame.bp
 }
 
@@ -147,14 +170,14 @@ fn misses_interrupt(core: &Core, frame: &Frame) -> bool
 {
     let sp = up(core.rsp, 24);
     frame.slot.is_of_call()
-        || core.region.may_read_another(core.rsp, frame.ra)
-        || core.region.may_read_another(sp, frame.cfa)
+        || core.memory.may_read_another(core.rsp, frame.ra)
+        || core.memory.may_read_another(sp, frame.cfa)
         || core.rbp != frame.bp
 }
 
-/// It returns from an interrupt, to the interrupted instruction.
-pub fn returns_from_interrupt(p: &Program, s: Standing) -> Option<Standing>
-    ensures { (set : List Bool) → IfSome result (λ t. ReturnsFromInterrupt (program_of p.now set) (standing_of s) (standing_of t)) }
+/// Takes off the frame of an interrupt, or of a breakpoint, from which it returns.
+fn pop_interrupt(p: &Program, s: Standing, trap: bool) -> Option<(Frame, Standing)>
+    ensures { (set : List Bool) → IfSome result (λ popped. IsIretFrom (program_of p.now set) s trap popped.0 popped.1) }
 {
     match p.insn(s.point).op {
         Op::Iret => {}
@@ -164,19 +187,43 @@ pub fn returns_from_interrupt(p: &Program, s: Standing) -> Option<Standing>
         return None;
     }
     let (frame, popped) = pop_frame(s)?;
-    let to = frame.call?;
-    if !is_at_iret(&popped.core, &frame) {
+    if frame.trap != trap || !is_at_iret(&popped.core, &frame) {
         return None;
     }
-    Some(resumed(popped, frame, to))
+    Some((frame, popped))
 }
 
-/// The interrupted standing, below a frame that was taken off.
-fn resumed(popped: Standing, frame: Frame, to: u32) -> Standing
-    ensures { IsResumed popped frame to result }
+/// It returns from an interrupt, to the interrupted instruction.
+pub fn returns_from_interrupt(p: &Program, s: Standing) -> Option<Standing>
+    ensures { (set : List Bool) → IfSome result (λ t. ReturnsFromInterrupt (program_of p.now set) (standing_of s) (standing_of t)) }
+{
+    let (frame, popped) = pop_interrupt(p, s, false)?;
+    let to = frame.call?;
+    let held = frame.held;
+    Some(resumed(popped, frame, held, to))
+}
+
+/// It returns from a breakpoint, to what follows that.
+pub fn returns_from_breakpoint(p: &Program, s: Standing, to: u32) -> Option<Standing>
+    ensures { (set : List Bool) → IfSome result (λ t. ReturnsFromBreakpoint (program_of p.now set) (standing_of s) (standing_of t)) }
+{
+    let (frame, popped) = pop_interrupt(p, s, true)?;
+    let call = frame.call?;
+    if p.is_dead_end(call) || !p.follows(call, to) {
+        return None;
+    }
+    Some(resumed(popped, frame, Held::Nothing, to))
+}
+
+/// The interrupted standing, below a frame that was taken off, with this held.
+fn resumed(popped: Standing, frame: Frame, held: Held, to: u32) -> Standing
+    ensures { IsResumed popped frame (held_of held) to result }
 {
     let mut t = popped;
+    let registers = frame.registers;
     t.core.rsp = frame.cfa;
+    t.core.registers = registers;
+    t.core.held = held;
     t.core.ac = frame.ac;
     t.point = to;
     t.ended = frame.ended_caller;

@@ -1,26 +1,30 @@
-//! What a state says of rsp, rbp and the frames.
+//! What a state that a hint sets says of registers and the frames.
 
-ghost use Rattle.std.specs.Prelude.{IsTrue};
-ghost use Rattle.state_defs.specs.State.{MeansDepth, MeansHome, Means, MeansTop};
+ghost use Rattle.std.specs.Prelude.{IsTrue, IfSome, List};
+ghost use Rattle.state_defs.specs.Frame.{Frame as DefinedFrame};
+ghost use Rattle.state_defs.specs.State.{MeansDepth, MeansHome, Means, MeansTop, register_in, view_of};
 ghost use Rattle.machine_model.specs.Slot.{slot_of};
 ghost use Rattle.machine_model.specs.Frame.{frame_of, frames_of};
+ghost use Rattle.machine_model.specs.Standing.{core_of};
 
 use crate::frame::Frame;
+use crate::registers::number_in;
 use crate::slot::Slot;
+use crate::standing::Core;
 use program_model::shifted_back;
-use state_defs::{BpHome, Depth, State};
+use state_defs::{BpHome, Depth, SpCopy, State};
 
 /// Bytes of a whole pt_regs, and of the five words of an interrupt.
 const FULL_SIZE: u64 = 168;
 
 const PARTIAL_SIZE: u64 = 40;
 
-fn means_depth(depth: Depth, rsp: u64, cfa: u64) -> bool
-    ensures { IsTrue result → MeansDepth depth rsp cfa }
+fn means_depth(depth: Depth, address: u64, cfa: u64) -> bool
+    ensures { IsTrue result → MeansDepth depth address cfa }
 {
     match depth {
-        Depth::Known(n) => rsp == shifted_back(cfa, n),
-        Depth::AtLeast(n) => i128::from(rsp) + i128::from(n) <= i128::from(cfa),
+        Depth::Known(n) => address == shifted_back(cfa, n),
+        Depth::AtLeast(n) => i128::from(address) + i128::from(n) <= i128::from(cfa),
     }
 }
 
@@ -34,48 +38,76 @@ fn means_home(bp: BpHome, rbp: u64, frame: &Frame) -> bool
     }
 }
 
-fn means_regs(full: bool, depth: i64, rsp: u64, rbp: u64, frame: &Frame) -> bool
-    ensures { IsTrue result → Means (State.Regs full depth) rsp rbp (frame_of frame.now) }
+fn means_copy(copy: Option<SpCopy>, core: &Core, cfa: u64) -> bool
+    ensures { IsTrue result → IfSome copy (λ c. MeansDepth c.depth (register_in (view_of (core_of core.now)) c.reg) cfa) }
 {
+    match copy {
+        None => true,
+        Some(copy) => means_depth(
+            copy.depth,
+            number_in(core.rbp, &core.registers, copy.reg),
+            cfa,
+        ),
+    }
+}
+
+/// Whether a frame stands in the stack in use, and its function hasn't gone to another, nor told its top elsewhere.
+fn stands_here(core: &Core, frame: &Frame) -> bool {
+    frame.stack == core.stack && frame.cell.is_none() && frame.told.is_untold()
+}
+
+fn means_regs(full: bool, depth: i64, trap: bool, core: &Core, frame: &Frame) -> bool
+    ensures { (below : List DefinedFrame) → IsTrue result → Means (State.Regs full depth trap) (view_of (core_of core.now)) (frame_of frame.now) below }
+{
+    let is_here = frame.trap == trap && stands_here(core, frame);
     match frame.slot {
         Slot::FullAt(at) if full => {
-            rsp == shifted_back(at, depth)
+            is_here
+                && core.rsp == shifted_back(at, depth)
                 && -32 <= depth
                 && u128::from(at) + u128::from(FULL_SIZE) <= u128::from(frame.cfa)
         }
         Slot::PartialAt(at) if !full => {
-            rsp == shifted_back(at, depth)
+            is_here
+                && core.rsp == shifted_back(at, depth)
                 && 0 <= depth
-                && rbp == frame.bp
+                && core.rbp == frame.bp
                 && u128::from(at) + u128::from(PARTIAL_SIZE) <= u128::from(frame.cfa)
         }
         _ => false,
     }
 }
 
-/// Whether a state is true of rsp, rbp and a frame; an ended one says nothing.
-pub fn means(state: State, rsp: u64, rbp: u64, frame: &Frame) -> bool
-    ensures { IsTrue result → Means state rsp rbp (frame_of frame.now) }
+/// Whether a state that a hint may set is true of registers and a frame; an ended one says nothing.
+fn means(state: State, core: &Core, frame: &Frame) -> bool
+    ensures { (below : List DefinedFrame) → IsTrue result → Means state (view_of (core_of core.now)) (frame_of frame.now) below }
 {
     match state {
-        State::Live { depth, fp, bp } => {
-            means_depth(depth, rsp, frame.cfa)
-                && fp.is_none_or(|m| rbp == shifted_back(frame.cfa, m))
-                && means_home(bp, rbp, frame)
+        State::Live {
+            depth,
+            fp,
+            bp,
+            copy,
+        } => {
+            means_depth(depth, core.rsp, frame.cfa)
+                && fp.is_none_or(|m| core.rbp == shifted_back(frame.cfa, m))
+                && means_home(bp, core.rbp, frame)
+                && means_copy(copy, core, frame.cfa)
+                && stands_here(core, frame)
         }
         State::Ended(_) => true,
-        State::Regs { full, depth } => means_regs(full, depth, rsp, rbp, frame),
+        State::Regs { full, depth, trap } => means_regs(full, depth, trap, core, frame),
+        State::Poised { .. } | State::Switched { .. } | State::Drap { .. } => false,
     }
 }
 
-/// Whether a state is true of a stack of frames: a live one, or one over saved registers, has a top
-/// frame.
-pub fn means_top(state: State, rsp: u64, rbp: u64, frames: &[Frame]) -> bool
-    ensures { IsTrue result → MeansTop state rsp rbp (frames_of frames.now) }
+/// Whether a state that a hint may set is true of a stack of frames: one that hasn't ended has a top frame.
+pub fn means_top(state: State, core: &Core) -> bool
+    ensures { IsTrue result → MeansTop state (view_of (core_of core.now)) (frames_of core.now.shadow.items) }
 {
-    match (state, frames) {
+    match (state, core.shadow.as_slice()) {
         (State::Ended(_), _) => true,
-        (_, [top, ..]) => means(state, rsp, rbp, top),
+        (_, [top, ..]) => means(state, core, top),
         (_, []) => false,
     }
 }

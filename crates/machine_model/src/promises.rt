@@ -7,7 +7,7 @@ ghost use Rattle.machine_defs.specs.Program.{is_call_op};
 ghost use Rattle.machine_defs.specs.Machine.{At};
 ghost use Rattle.option_law.specs.Frames.{HasFramePointer, CallsWithFrame};
 ghost use Rattle.option_law.specs.Access.{HasSafeTarget, top_of};
-ghost use Rattle.program_model.specs.Region.{region_of};
+ghost use Rattle.program_model.specs.Region.{memory_of};
 ghost use Rattle.program_model.specs.Program.{of_point, no_insn, program_of};
 ghost use Rattle.machine_model.specs.Frame.{frame_of, frames_of};
 ghost use Rattle.machine_model.specs.Standing.{core_of, standing_of};
@@ -20,7 +20,7 @@ use crate::{Core, Frame, Standing};
 use machine_defs::{Edge, EdgeKind, Role};
 use operation_defs::Op;
 use ot_base::Options;
-use program_model::{Program, Region, down, may_go_back, up};
+use program_model::{Memory, Program, down, may_go_back, up};
 use std::alloc::{AllocError, Global};
 
 /// A promise of an option.
@@ -42,11 +42,11 @@ pub enum Promise {
     LeavesAsFound,
 }
 
-/// Whether the word at an address is in the region, and is this one.
-fn holds_word(region: &Region, address: u64, word: u64) -> bool
-    ensures { IsTrue result ↔ Holds (region_of region.now) address word }
+/// Whether the word at an address is in a stack, and is this one.
+fn holds_word(memory: &Memory, address: u64, word: u64) -> bool
+    ensures { IsTrue result ↔ Holds (memory_of memory.now) address word }
 {
-    match region.word_at(address) {
+    match memory.word_at(address) {
         Some(held) => held == word,
         None => false,
     }
@@ -57,8 +57,8 @@ fn has_frame_pointer(core: &Core, frame: &Frame) -> bool
     ensures { IsTrue result ↔ HasFramePointer (core_of core.now) (frame_of frame.now) }
 {
     core.rbp == down(frame.cfa, 16)
-        && holds_word(&core.region, core.rbp, frame.bp)
-        && holds_word(&core.region, up(core.rbp, 8), frame.ra)
+        && holds_word(&core.memory, core.rbp, frame.bp)
+        && holds_word(&core.memory, up(core.rbp, 8), frame.ra)
 }
 
 /// Whether an instruction is a call.

@@ -4,18 +4,19 @@ ghost use Rattle.std.specs.Prelude.{◌≡◌, ◌∷◌, IfOk, IfSome, IsTrue, 
 ghost use Rattle.state_defs.specs.Address.{up};
 ghost use Rattle.state_defs.specs.Frame.{Frame as DefinedFrame};
 ghost use Rattle.machine_defs.specs.Step.{IsAtReturn, MissesReturn, LeavesMemory, Returns};
-ghost use Rattle.program_model.specs.Region.{region_of};
+ghost use Rattle.program_model.specs.Region.{memory_of};
 ghost use Rattle.machine_model.specs.Frame.{frame_of, frames_of};
 ghost use Rattle.machine_model.specs.Standing.{core_of, standing_of};
 ghost use Rattle.program_model.specs.Program.{program_of};
 ghost use Rattle.machine_model.specs.Left.{ComesBack, IsPopped, IsBack};
 
-use crate::frame::Frame;
+use crate::frame::{Frame, Held, Registers};
 use crate::leaving::ends_run;
+use crate::registers::gives_back;
 use crate::shadow::protected_addresses;
 use crate::standing::{Core, Standing};
 use machine_defs::Role;
-use program_model::{Program, Region, Store, down, is_listed, may_go_back, up};
+use program_model::{Memory, Program, Store, down, is_listed, may_go_back, up};
 use std::alloc::{AllocError, Global};
 
 /// Whether the stack may be as it has to be for a return from this frame.
@@ -23,7 +24,7 @@ fn is_at_return(core: &Core, frame: &Frame) -> bool
     ensures { IsTrue result → IsAtReturn (core_of core.now) (frame_of frame.now) }
 {
     frame.slot.is_of_call()
-        && core.region.may_read(core.rsp, frame.ra)
+        && core.memory.may_read(core.rsp, frame.ra)
         && core.rsp == down(frame.cfa, 8)
         && core.rbp == frame.bp
 }
@@ -43,7 +44,7 @@ fn misses_frame(core: &Core, frame: &Frame) -> bool
     ensures { (others : List DefinedFrame) → IsTrue result → MissesReturn (core_of core.now) (frame_of frame.now ∷ others) }
 {
     !frame.slot.is_of_call()
-        || core.region.may_read_another(core.rsp, frame.ra)
+        || core.memory.may_read_another(core.rsp, frame.ra)
         || core.rsp != down(frame.cfa, 8)
         || core.rbp != frame.bp
 }
@@ -61,12 +62,21 @@ pub fn pop_frame(s: Standing) -> Option<(Frame, Standing)>
     Some((frame, s))
 }
 
-/// Goes back below a frame that was taken off, with this memory and rsp.
-pub fn back(popped: Standing, frame: Frame, rsp: u64, region: Region, to: u32) -> Standing
-    ensures { IsBack popped frame rsp region to result }
+/// Goes back below a frame that was taken off, with this memory, rsp and these registers.
+pub fn back(
+    popped: Standing,
+    frame: Frame,
+    rsp: u64,
+    memory: Memory,
+    registers: Registers,
+    to: u32,
+) -> Standing
+    ensures { IsBack popped frame rsp memory registers to result }
 {
     let mut t = popped;
-    t.core.region = region;
+    t.core.memory = memory;
+    t.core.registers = registers;
+    t.core.held = Held::Nothing;
     t.core.rsp = rsp;
     t.point = to;
     t.ended = frame.ended_caller;
@@ -80,10 +90,10 @@ fn left_memory(
     alloc: Global,
     role: Role,
     below: &[Frame],
-    before: &Region,
+    before: &Memory,
     stores: &[Store],
-) -> Result<Option<Region>, AllocError>
-    ensures { IfOk result (λ left. IfSome left (λ after. LeavesMemory role (frames_of below.now) (region_of before.now) (region_of after))) }
+) -> Result<Option<Memory>, AllocError>
+    ensures { IfOk result (λ left. IfSome left (λ after. LeavesMemory role (frames_of below.now) (memory_of before.now) (memory_of after))) }
 {
     match role {
         Role::Return => Ok(Some(before.clone()?)),
@@ -123,6 +133,7 @@ pub fn returns(
     s: Standing,
     to: u32,
     stores: &[Store],
+    registers: Registers,
 ) -> Result<Option<Standing>, AllocError>
     ensures { (set : List Bool) → IfOk result (λ left. IfSome left (λ t. Returns (program_of p.now set) (standing_of s) (standing_of t))) }
 {
@@ -140,12 +151,15 @@ pub fn returns(
     if !goes_back(ends, &frame) || !is_at_return(&popped.core, &frame) || !comes_back(p, call, to) {
         return Ok(None);
     }
+    if !gives_back(&frame.registers, &registers) {
+        return Ok(None);
+    }
     let below = popped.core.shadow.as_slice();
-    match left_memory(alloc, role, below, &popped.core.region, stores)? {
+    match left_memory(alloc, role, below, &popped.core.memory, stores)? {
         None => Ok(None),
-        Some(region) => {
+        Some(memory) => {
             let rsp = up(popped.core.rsp, 8);
-            Ok(Some(back(popped, frame, rsp, region, to)))
+            Ok(Some(back(popped, frame, rsp, memory, registers, to)))
         }
     }
 }

@@ -1,7 +1,7 @@
 //! Runs: a start, then steps in which rsp stays in the stack.
 
 use crate::choice::Choice;
-use crate::frame::Frame;
+use crate::frame::{Frame, Held};
 use crate::hint::lands;
 use crate::standing::{Core, Machine, Standing};
 use crate::steps::{interrupt, step};
@@ -30,22 +30,32 @@ fn outermost(core: &Core) -> Option<Frame> {
         && frame.ended_caller.is_none()
         && frame.mark_caller.is_none()
         && frame.ac == core.ac
-        && u128::from(frame.cfa) <= core.region.end();
+        && frame.registers == core.registers
+        && frame.stack == core.stack
+        && frame.held == Held::Nothing
+        && frame.cell.is_none()
+        && frame.told.is_untold()
+        && frame.cfa <= core.stack.hi;
     (was_there && core.shadow.len() == 1).then_some(frame)
 }
 
-/// The only frame, where it is one of a call from outside, whose return address is on the stack.
+/// The only frame, where it is one of a call from outside, whose return address is on the stack in use.
 fn called_from(placement: &[Range], core: &Core) -> Option<Frame> {
     let frame = outermost(core)?;
-    let was_called = frame.slot == crate::slot::Slot::Unsaved
+    let was_called = frame.slot.is_unsaved()
+        && !frame.trap
+        && core.stack.lo <= frame.cfa
         && !is_inside(placement, down(frame.ra, 1))
-        && core.region.may_read(down(frame.cfa, 8), frame.ra);
+        && core.memory.may_read(down(frame.cfa, 8), frame.ra);
     was_called.then_some(frame)
 }
 
-/// Whether the only frame is one of an interrupt that came outside.
-fn was_interrupted(placement: &[Range], core: &Core) -> bool {
-    outermost(core).is_some_and(|frame| !frame.slot.is_of_call() && !is_inside(placement, frame.ra))
+/// Whether the only frame is one of an interrupt that came outside, or of a breakpoint there.
+fn was_interrupted(placement: &[Range], trap: bool, core: &Core) -> bool {
+    outermost(core).is_some_and(|frame| {
+        let looked_up = if trap { down(frame.ra, 1) } else { frame.ra };
+        !frame.slot.is_of_call() && frame.trap == trap && !is_inside(placement, looked_up)
+    })
 }
 
 /// Whether a run may start at a point by the hint of a plain point: that is of checked code, and in no site past its start;
@@ -87,8 +97,8 @@ fn is_start(p: &Program, placement: &[Range], start: Start, t: &Standing) -> boo
         (Start::AtCallHint, Some(HintState::Set(State::Live { .. }))) => {
             is_hint_start && called_from(placement, &t.core).is_some()
         }
-        (Start::AtRegsHint, Some(HintState::Set(State::Regs { .. }))) => {
-            is_hint_start && was_interrupted(placement, &t.core)
+        (Start::AtRegsHint, Some(HintState::Set(State::Regs { trap, .. }))) => {
+            is_hint_start && was_interrupted(placement, trap, &t.core)
         }
         (Start::AtEndHint, Some(HintState::Set(State::Ended(_)))) => {
             is_hint_start && t.core.shadow.is_empty()
@@ -98,7 +108,7 @@ fn is_start(p: &Program, placement: &[Range], start: Start, t: &Standing) -> boo
 }
 
 /// The start: what the hint where the machine stands makes of that, where nothing has ended the stack;
-/// it has no mark.
+/// it has no mark, and nothing is held on from before.
 pub fn started(
     alloc: Global,
     p: &Program,
@@ -106,10 +116,11 @@ pub fn started(
     start: Start,
     t: Standing,
 ) -> Result<Option<Standing>, AllocError> {
-    if t.ended.is_some() || t.mark.is_some() || !is_start(p, placement, start, &t) {
+    let is_new = t.ended.is_none() && t.mark.is_none() && t.core.held == Held::Nothing;
+    if !is_new || !is_start(p, placement, start, &t) {
         return Ok(None);
     }
-    let Some(mut s) = lands(alloc, p, t)? else {
+    let Some(mut s) = lands(alloc, p, placement, t)? else {
         return Ok(None);
     };
     s.mark = None;

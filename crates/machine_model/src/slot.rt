@@ -16,7 +16,7 @@ pub enum Slot {
 
 impl Slot {
     ghost use Rattle.std.specs.Prelude.{◌≡◌};
-    ghost use Rattle.state_defs.specs.Frame.{is_of_call, saved_slot, loaded_slot, popped_slot};
+    ghost use Rattle.state_defs.specs.Frame.{is_of_call, is_unsaved, is_saved_at, saved_slot, loaded_slot, popped_slot};
     ghost use Rattle.machine_model.specs.Slot.{slot_of};
 
     /// Whether the frame is a call's.
@@ -26,6 +26,26 @@ impl Slot {
         match self {
             Slot::Unsaved | Slot::SavedAt(_) => true,
             Slot::PartialAt(_) | Slot::FullAt(_) => false,
+        }
+    }
+
+    /// Whether it is that of a call frame whose caller's rbp isn't in memory.
+    pub fn is_unsaved(self) -> bool
+        ensures { result ≡ is_unsaved (slot_of self) }
+    {
+        match self {
+            Slot::Unsaved => true,
+            Slot::SavedAt(_) | Slot::PartialAt(_) | Slot::FullAt(_) => false,
+        }
+    }
+
+    /// Whether it is that of a call frame whose caller's rbp is at this address.
+    pub fn is_saved_at(self, address: u64) -> bool
+        ensures { result ≡ is_saved_at address (slot_of self) }
+    {
+        match self {
+            Slot::SavedAt(a) => address == a,
+            Slot::Unsaved | Slot::PartialAt(_) | Slot::FullAt(_) => false,
         }
     }
 

@@ -1,31 +1,33 @@
-ghost use Rattle.std.specs.Prelude.{IsTrue};
-ghost use Rattle.program_model.specs.Region.{region_of};
-ghost use Rattle.machine_model.specs.Standing.{IsInRegion};
+ghost use Rattle.std.specs.Prelude.{◌≡◌, ◌≤◌, IsTrue};
+ghost use Rattle.state_defs.specs.Region.{LiesIn};
+ghost use Rattle.program_model.specs.Region.{own_stack};
 
-use crate::frame::{Frame, Mark};
-use crate::shadow::{are_kept, end_of, listed, protected_addresses, top_slot};
-use program_model::Region;
+use crate::frame::{Frame, Held, Mark, Registers};
+use crate::shadow::{Ending, are_kept, end_of, found, listed, protected_addresses, top_keeping};
+use program_model::{Memory, Stack};
 use state_defs::EndKind;
 use std::alloc::{AllocError, Global};
 
-/// Whether a region ends a gigabyte below the last address, and rsp is in it or right behind it.
-fn is_in_region(rsp: u64, rbp: u64, region: &Region) -> bool
-    ensures { IsTrue result → IsInRegion rsp rbp (region_of region.now) }
+/// Whether an address lies in a stack, or is the one behind it.
+fn lies_in(stack: Stack, address: u64) -> bool
+    ensures { IsTrue result → LiesIn (own_stack stack) address }
 {
-    if !region.is_placed() || rsp < region.lo {
-        return false;
-    }
-    u128::from(rsp) <= region.end()
+    stack.lo <= address && address <= stack.hi
 }
 
-/// What an operation acts on: the registers that matter to the stack, the stack in memory, and the
-/// shadow call stack.
+/// What an operation acts on: registers, the stacks in memory, and the shadow call stack.
 #[derive(Clone, Drop)]
 pub struct Core {
     pub rsp: u64,
     pub rbp: u64,
-    /// The stack in memory.
-    pub region: Region,
+    /// The other general registers.
+    pub registers: Registers,
+    /// The stacks in memory.
+    pub memory: Memory,
+    /// The one that is in use.
+    pub stack: Stack,
+    /// What the instruction before has left for this one.
+    pub held: Held,
     /// Whether user access is on.
     pub ac: bool,
     /// The shadow call stack, the top frame first.
@@ -46,12 +48,13 @@ impl Core {
         protected_addresses(alloc, self.shadow.as_slice())
     }
 
-    /// Whether the region stays clear of the end of the addresses by a gigabyte, and rsp is in it or
-    /// right behind it.
+    /// Whether the stacks are some, and rsp is in the one in use or right behind it.
     pub fn is_in_stack(&self) -> bool
         ensures { IsTrue result → IsInStack (core_of self.now) }
     {
-        is_in_region(self.rsp, self.rbp, &self.region)
+        self.memory.are_stacks()
+            && self.memory.has_stack(self.stack)
+            && lies_in(self.stack, self.rsp)
     }
 }
 
@@ -62,7 +65,7 @@ pub struct Standing {
     pub point: u32,
     /// Registers, memory and frames.
     pub core: Core,
-    /// The kind of hint that ended the stack, if one did.
+    /// How the stack has ended, if a hint ended it, or loose code lost it.
     pub ended: Option<EndKind>,
     /// The last SAVE hint passed on this level.
     pub mark: Option<Mark>,
@@ -70,42 +73,60 @@ pub struct Standing {
 
 impl Standing {
     ghost use Rattle.std.specs.Prelude.{◌≡◌, IfOk};
-    ghost use Rattle.state_defs.specs.Frame.{listed};
+    ghost use Rattle.state_defs.specs.Frame.{listed, found};
     ghost use Rattle.machine_defs.specs.Machine.{frames_end};
     ghost use Rattle.machine_defs.specs.Hint.{KeepsSlots, mark_at};
+    ghost use Rattle.machine_model.specs.Ending.{ending_of};
     ghost use Rattle.machine_model.specs.Frame.{frames_of, mark_of};
     ghost use Rattle.machine_model.specs.Standing.{standing_of};
 
-    /// The frames that a walk is to find.
-    pub fn frames(&self) -> &[Frame]
+    /// The frames whose protected slots are kept.
+    pub fn listed(&self) -> &[Frame]
         ensures { frames_of result.now ≡ listed self.now.ended (frames_of self.now.core.shadow.items) }
     {
         listed(self.ended, self.core.shadow.as_slice())
     }
 
-    /// The kind of hint that emptied or cut them, if one did.
-    pub fn frames_end(&self) -> Option<EndKind>
-        ensures { result ≡ frames_end (standing_of self.now) }
+    /// The frames that a walk is to find.
+    pub fn frames(&self) -> &[Frame]
+        ensures { frames_of result.now ≡ found (listed self.now.ended (frames_of self.now.core.shadow.items)) }
+    {
+        found(self.listed())
+    }
+
+    /// What ends them.
+    pub fn frames_end(&self) -> Ending
+        ensures { ending_of result ≡ frames_end (standing_of self.now) }
     {
         end_of(self.ended, self.core.shadow.as_slice())
     }
 
-    /// Whether the frames that a walk is to find keep their protected slots.
+    /// Whether the frames that are listed keep their protected slots.
     pub fn keeps_slots(&self, alloc: Global) -> Result<bool, AllocError>
         ensures { IfOk result (λ keeps. IsTrue keeps → KeepsSlots (standing_of self.now)) }
     {
-        are_kept(alloc, self.core.rsp, &self.core.region, self.frames())
+        are_kept(
+            alloc,
+            self.core.stack,
+            self.core.rsp,
+            &self.core.memory,
+            self.listed(),
+        )
     }
 
-    /// What rsp, rbp, the top frame's slot and the end of the stack are here.
+    /// What the registers, the stack in use, what is held, what the top frame keeps, and the end of the stack are here.
     pub fn mark_here(&self) -> Mark
         ensures { mark_of result ≡ mark_at (standing_of self.now) }
     {
+        let registers = self.core.registers;
         Mark {
             point: self.point,
             rsp: self.core.rsp,
             rbp: self.core.rbp,
-            slot: top_slot(self.core.shadow.as_slice()),
+            registers,
+            stack: self.core.stack,
+            held: self.core.held,
+            keeping: top_keeping(self.core.shadow.as_slice()),
             ended: self.ended,
         }
     }

@@ -1,4 +1,4 @@
-use Rattle.machine_defs.specs.Step.{GoesOn, Faults, CallsIn, CallsOut, Returns, TailCalls, goes_on, faults, calls_in, calls_out, returns, tail_calls}
+use Rattle.machine_defs.specs.Step.{GoesOn, Faults, CallsIn, CallsOut, Returns, TailCalls, ReturnsFromBreakpoint, goes_on, faults, calls_in, calls_out, returns, tail_calls, irets_behind}
 use Rattle.program_model.specs.Placement.{bases_of}
 use Rattle.program_model.specs.Program.{program_of}
 use Rattle.std.proofs.Common.{Ok}
@@ -29,3 +29,7 @@ returns-in-Returns c = λ told.
 pub returns-in-TailCalls : goal.returns-in-TailCalls
 returns-in-TailCalls c = λ told.
     leads {E = Unit {0}} _ (program_of c.args.p.now c.args.kept.now.may_return.items) (bases_of c.args.placement.now) (standing_of c.args.s) (TailCalls (program_of c.args.p.now c.args.kept.now.may_return.items) (standing_of c.args.s)) (tail_calls (standing_of c.args.s)) (Ok c.tail_calls.result) (c.tail_calls.ensures c.args.kept.now.may_return.items)
+
+pub returns-in-ReturnsFromBreakpoint : goal.returns-in-ReturnsFromBreakpoint
+returns-in-ReturnsFromBreakpoint c = λ told.
+    leads {E = Unit {0}} _ (program_of c.args.p.now c.args.kept.now.may_return.items) (bases_of c.args.placement.now) (standing_of c.args.s) (ReturnsFromBreakpoint (program_of c.args.p.now c.args.kept.now.may_return.items) (standing_of c.args.s)) (irets_behind (standing_of c.args.s)) (Ok c.returns_from_breakpoint.result) (c.returns_from_breakpoint.ensures c.args.kept.now.may_return.items)

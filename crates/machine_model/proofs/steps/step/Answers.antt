@@ -1,10 +1,9 @@
-use Rattle.std.proofs.Common.{◌≤◌, ◌^◌, refl, sym, subst}
-use Rattle.state_defs.specs.Region.{hi_of}
+use Rattle.std.proofs.Common.{refl, sym, subst}
 use Rattle.machine_defs.specs.Machine.{Machine, At}
 use Rattle.machine_defs.specs.Step.{Step, wrecks, irets}
 use Rattle.machine_model.specs.declared.standing.Standing.{Standing}
 use Rattle.machine_model.specs.declared.standing.Machine.{Machine as OwnMachine}
-use Rattle.program_model.specs.Region.{region_of}
+use Rattle.program_model.specs.Region.{IsInSpace, memory_of}
 use Rattle.program_model.specs.Placement.{bases_of}
 use Rattle.program_model.specs.Program.{program_of}
 use Rattle.machine_model.specs.Standing.{standing_of, machine_of}
@@ -20,8 +19,8 @@ returns-in-ReturnsFromInterrupt c = λ told high. irets (standing_of c.args.s) (
 
 pub returns : goal.returns
 returns c = λ told.
-    weaker (LandsAs (program_of c.args.p.now c.args.kept.now.may_return.items) (standing_of c.in-Some-2.t))
-    (λ (m : OwnMachine). hi_of (region_of c.args.s.core.region) ≤ 2 ^ 64 → Step (program_of c.args.p.now c.args.kept.now.may_return.items) (bases_of c.args.placement.now) (At (standing_of c.args.s)) (machine_of m))
+    weaker (LandsAs (program_of c.args.p.now c.args.kept.now.may_return.items) (bases_of c.args.placement.now) (standing_of c.in-Some-2.t))
+    (λ (m : OwnMachine). IsInSpace (memory_of c.args.s.core.memory) → Step (program_of c.args.p.now c.args.kept.now.may_return.items) (bases_of c.args.placement.now) (At (standing_of c.args.s)) (machine_of m))
     (λ m landed high. subst (λ (x : Machine). Step (program_of c.args.p.now c.args.kept.now.may_return.items) (bases_of c.args.placement.now) (At (standing_of c.args.s)) x) (sym landed.at)
-    (at_some (λ (t : Standing). hi_of (region_of c.args.s.core.region) ≤ 2 ^ 64 → LeadsTo (program_of c.args.p.now c.args.kept.now.may_return.items) (bases_of c.args.placement.now) (standing_of c.args.s) (standing_of t)) _ _ c.in-Some-2.is (c.in_ok-moved-in_default.ensures told) high landed.after landed.lands))
+    (at_some (λ (t : Standing). IsInSpace (memory_of c.args.s.core.memory) → LeadsTo (program_of c.args.p.now c.args.kept.now.may_return.items) (bases_of c.args.placement.now) (standing_of c.args.s) (standing_of t)) _ _ c.in-Some-2.is (c.in_ok-moved-in_default.ensures told) high landed.after landed.lands))
     c.landed.result (c.landed.ensures c.args.kept.now.may_return.items)
