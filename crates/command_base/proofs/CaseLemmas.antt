@@ -12,6 +12,7 @@ use Rattle.elf_objects.specs.Elf.{Elf}
 use Rattle.elf_objects.specs.Below.{least_below}
 use Rattle.elf_objects.proofs.LeastBelow.{least_below-some}
 use Rattle.state_defs.specs.declared.state.State.{State}
+use Rattle.state_defs.specs.State.{held_by}
 use Rattle.machine_defs.specs.declared.flow.EdgeKind.{EdgeKind}
 use Rattle.machine_defs.specs.declared.flow.EdgeKind.TheVariants.{Next, Taken, Fixup, Table, Sibling}
 use Rattle.machine_defs.specs.Program.{Program, IsPoint}
@@ -37,13 +38,13 @@ some_of : (o : Option State) → is_some o ≡ true → (s : State) × (o ≡ So
 some_of (Some s) h = (s, refl)
 some_of None h = cc
 
--- a state comes along an edge so
-kind_along : (k : EdgeKind) (s t : State) (after : Result State ℕ) → Contains (brought_along s after k) t → (kind : WayKind) × (along k ≡ Some kind)
-kind_along Next s t after h = (kinds.Next, refl)
-kind_along Taken s t after h = (kinds.Taken, refl)
-kind_along Fixup s t after h = (kinds.Fixup, refl)
-kind_along Table s t after h = (kinds.Table, refl)
-kind_along Sibling s t after h = absurd (omega (arith, h.1))
+-- a state comes along an edge so, whatever copy of rsp is held at its end
+kind_along : (held : State → State) (k : EdgeKind) (s t : State) (after : Result State ℕ) → Contains (map held (brought_along s after k)) t → (kind : WayKind) × (along k ≡ Some kind)
+kind_along held Next s t after h = (kinds.Next, refl)
+kind_along held Taken s t after h = (kinds.Taken, refl)
+kind_along held Fixup s t after h = (kinds.Fixup, refl)
+kind_along held Table s t after h = (kinds.Table, refl)
+kind_along held Sibling s t after h = absurd (omega (arith, h.1))
 
 module _ (p : Program) (kept : List (Option State)) (ways : List (List WayStep)) (same : length kept ≡ p.count) (paths : length ways ≡ p.count) (are_kept : AreKeptStates p (at kept)) (are_ways : AreWays p ways) where
   -- a point that keeps a state is one
@@ -99,7 +100,7 @@ module _ (p : Program) (kept : List (Option State)) (ways : List (List WayStep))
 
   other_told : (w : Warning) (o : Option Clash) → IsCaseClash p w o → IsOtherWay p w (turns_along ways o)
   other_told w o (found clash is) =
-      let kind = kind_along clash.edge.kind is.before is.brought (moved_at p clash.from is.before) is.along in
+      let kind = kind_along (held_by (p.held clash.edge.to)) clash.edge.kind is.before is.brought (moved_at p clash.from is.before) is.along in
       subst (λ (k : Option WayKind). IsOtherWay p w (turns_at ways clash.from ++ step_along clash.edge.to k)) (sym kind.1)
       (mismatch clash kind.0 (turns_at ways clash.from) is kind.1 (turns_to_point clash.from is.before is.from))
   other_told w o (none rule) = alone rule
