@@ -1,5 +1,5 @@
 -- What is printed of the walk from an image that holds a state of the machine.
-use Rattle.std.proofs.Common.{◌≡◌, ℕ, zero, suc, ◌+◌, w64, true, List, [], ◌∷◌, map, refl, sym, ap, ◌∙◌, subst, Option, Some, None, inl, inr}
+use Rattle.std.proofs.Common.{◌≡◌, ℕ, zero, suc, ◌+◌, w64, true, List, [], ◌∷◌, map, refl, sym, ap, ◌∙◌, subst, Option, inl, inr}
 use Rattle.std.specs.Prelude.{◌++◌, option_map}
 use Rattle.std.specs.Option.{option_and_then}
 use Rattle.std.specs.Int.{from_le_bytes}

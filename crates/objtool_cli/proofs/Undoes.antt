@@ -19,7 +19,6 @@ use Rattle.flow_defs.specs.Code.{text_numbers}
 use Rattle.flow_defs.specs.Coded.{Coded}
 use Rattle.flow_defs.specs.Program.{graph_of, program_of, returning_graph, text_sections_of, uncopied_program}
 use Rattle.state_defs.specs.Row.{row_of, zero_row}
-use Rattle.state_defs.specs.declared.state.EndKind.TheVariants.{Undefined, EndOfStack}
 use Rattle.state_defs.specs.declared.state.State.{State}
 use Rattle.state_defs.specs.declared.state.State.TheVariants.{Live, Ended, Regs, Poised, Switched, Drap}
 use Rattle.state_defs.specs.declared.state.Phase.TheVariants.{Bare, Pushed, Framed, Homed}
