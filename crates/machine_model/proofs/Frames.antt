@@ -1,5 +1,5 @@
 -- The words that the frames of a shadow call stack protect.
-use Rattle.std.proofs.Common.{◌≡◌, ℕ, ◌+◌, ◌-◌, ◌<◌, ◌≤◌, List, [], ◌∷◌, ◌++◌, length, get_or, take, drop, add-one, arith, refl, sym, ap, ◌∙◌, subst}
+use Rattle.std.proofs.Common.{◌≡◌, ◌⊎◌, ℕ, ◌+◌, ◌-◌, ◌<◌, ◌≤◌, List, [], ◌∷◌, ◌++◌, length, get_or, take, drop, add-one, arith, refl, sym, ap, ◌∙◌, subst}
 use Rattle.std.specs.Prelude.{All, map, flat_map, Option, None}
 use Rattle.std.specs.List.{remove}
 use Rattle.std.proofs.lemmas.List.{map-append, take_all, take_more, append-nil}
@@ -8,10 +8,10 @@ use Rattle.std.proofs.lemmas.List.Concat.{flat_map-append}
 use Rattle.std.proofs.lemmas.List.Elements.{All-map, All-weaker, All-same}
 use Rattle.state_defs.specs.declared.state.EndKind.{EndKind}
 use Rattle.state_defs.specs.Region.{Memory, Stack, Holds}
-use Rattle.state_defs.specs.Frame.{Frame, Protected, protected, protected_addresses, listed, IsAboveIn, AreKept}
+use Rattle.state_defs.specs.Frame.{Frame, Protected, protected, protected_addresses, listed, IsAboveIn, AreKept, LieOutside}
 use Rattle.machine_model.specs.declared.frame.Frame.{Frame as OwnFrame}
 use Rattle.machine_model.specs.declared.frame.Protected.{Protected as OwnProtected}
-use Rattle.machine_model.specs.Frame.{frame_of, frames_of, protected_of, words_of, IsWordKept}
+use Rattle.machine_model.specs.Frame.{frame_of, frames_of, protected_of, words_of, IsWordKept, IsWordOutside}
 
 -- one more frame's words behind those of the frames before it
 pub protected_more : (frames : List OwnFrame) (i : ℕ) (f d : OwnFrame) (slots words after : List OwnProtected) → i < length frames → f ≡ get_or frames i d
@@ -32,6 +32,12 @@ words_kept stack rsp memory frames words same kept = record {
   above = All-same (λ (w : Protected). IsAboveIn stack rsp w.at) _ _ (sym same) (All-map (λ (w : Protected). IsAboveIn stack rsp w.at) protected_of words (All-weaker (IsWordKept stack rsp memory) (λ (w : OwnProtected). IsAboveIn stack rsp w.at) (λ w k. k.above) words kept));
   hold = All-same (λ (w : Protected). Holds memory w.at w.value) _ _ (sym same) (All-map (λ (w : Protected). Holds memory w.at w.value) protected_of words (All-weaker (IsWordKept stack rsp memory) (λ (w : OwnProtected). Holds memory w.at w.value) (λ w k. k.holds) words kept));
 }
+
+-- words that lie outside a stack are those of frames that do
+pub words_outside : (stack : Stack) (frames : List OwnFrame) (words : List OwnProtected) → words_of words ≡ flat_map protected (frames_of frames)
+    → All (IsWordOutside stack) words → LieOutside stack (frames_of frames)
+words_outside stack frames words same kept =
+    All-same (λ (w : Protected). (w.at + 8 ≤ stack.lo) ⊎ (stack.hi ≤ w.at)) _ _ (sym same) (All-map (λ (w : Protected). (w.at + 8 ≤ stack.lo) ⊎ (stack.hi ≤ w.at)) protected_of words kept)
 
 -- one more listed frame: that of the top, over those of the rest
 pub listed_more : (xs : List OwnFrame) (d : OwnFrame) (ended : Option EndKind) (n : ℕ) → ended ≡ None → 1 ≤ length xs

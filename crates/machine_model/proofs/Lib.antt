@@ -8,3 +8,6 @@ pub mod Lines
 pub mod Misses
 pub mod Siblings
 pub mod Top
+pub mod Irets
+pub mod ReadTops
+pub mod TopMeans

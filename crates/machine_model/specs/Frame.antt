@@ -61,3 +61,7 @@ words_of words = map protected_of words
 pub record IsWordKept (stack : Stack) (rsp : ℕ) (memory : Memory) (word : OwnProtected) : Type 0 where
   pub above : IsAboveIn stack rsp word.at
   pub holds : Holds memory word.at word.value
+
+-- a word doesn't lie in a stack
+abbrev pub IsWordOutside : Stack → OwnProtected → Type 0
+IsWordOutside stack word = (word.at + 8 ≤ stack.lo) ⊎ (stack.hi ≤ word.at)

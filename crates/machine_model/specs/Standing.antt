@@ -1,5 +1,6 @@
 -- States of the model, as the definitions have them.
-use Rattle.std.specs.Prelude.{option_map}
+use Rattle.std.specs.Prelude.{◌≡◌, None, option_map}
+use Rattle.state_defs.specs.Frame.{Frame, Untold}
 use Rattle.state_defs.specs.Effect.{Core}
 use Rattle.machine_defs.specs.Machine.{Standing, Machine, Wrecked, At}
 use Rattle.machine_model.specs.declared.standing.Core.{Core as OwnCore}
@@ -18,3 +19,9 @@ standing_of s = record { point = s.point; core = core_of s.core; ended = s.ended
 abbrev pub machine_of : OwnMachine → Machine
 machine_of own.Wrecked = Wrecked
 machine_of (own.At s) = At (standing_of s)
+
+-- a frame stands in the stack in use, and its function hasn't gone to another, nor told its top elsewhere
+pub record StandsHere (core : Core) (f : Frame) : Type 0 where
+  pub stack : core.stack ≡ f.stack
+  pub cell : f.cell ≡ None
+  pub told : f.told ≡ Untold

@@ -1,13 +1,15 @@
 //! What an operation does to registers, memory and frames.
 
 ghost use Rattle.std.specs.Prelude.{◌≡◌, ◌&&◌, ◌+ℤ◌, pos, int_le, IfOk, IfSome, IsTrue};
-ghost use Rattle.state_defs.specs.Frame.{HoldsNothing, after_save};
+ghost use Rattle.operation_defs.specs.Made.{register_of};
+ghost use Rattle.state_defs.specs.Region.{Reads};
+ghost use Rattle.state_defs.specs.Frame.{HoldsNothing, after_save, read_told, with_top_told};
 ghost use Rattle.state_defs.specs.Effect.{Effect, MakesRoom, SavesInCell, StoresAlone, StoresPointer, WritesPointers, GoesTo, holds_bp, store_saves};
 ghost use Rattle.state_defs.specs.Address.{shifted};
 ghost use Rattle.program_model.specs.Region.{IsInSpace, memory_of};
 ghost use Rattle.machine_model.specs.Frame.{frames_of, held_of, registers_of};
 ghost use Rattle.machine_model.specs.Standing.{core_of};
-ghost use Rattle.machine_model.specs.Effect.{SavesAt, StoresAt};
+ghost use Rattle.machine_model.specs.Effect.{LoadsAt, SavesAt, SetsTo, StoresAt};
 
 use crate::choice::Anything;
 use crate::frame::{Frame, Held, Protected, Registers};
@@ -241,21 +243,46 @@ fn write_bp(alloc: Global, core: Core, any: &Anything<'_>) -> Result<Option<Core
     }
 }
 
+/// r10 or r13 is read from an address, which tells the frame's top again where it was pushed there.
+fn read_into(core: Core, reg: DrapRegister, address: u64, any: &Anything<'_>) -> Core
+    ensures { core_of result ≡ record (core_of core) { registers = registers_of any.now.registers; held = HoldsNothing; shadow = with_top_told (read_told reg address) (frames_of core.shadow.items) } }
+{
+    let mut core = acted(core, any.registers);
+    read_top(core.shadow.as_mut_slice(), reg, address);
+    core
+}
+
+/// Whether r10 or r13 is a word that may be read at an address.
+fn may_read_into(memory: &Memory, address: u64, reg: DrapRegister, any: &Anything<'_>) -> bool
+    ensures { IsTrue result → Reads (memory_of memory.now) address (registers_of any.now.registers (register_of reg)) }
+{
+    memory.may_read(address, number_at(&any.registers, register_of(reg)))
+}
+
+/// r10 or r13 is loaded from an address.
+fn load_at(core: Core, reg: DrapRegister, address: u64, any: &Anything<'_>) -> Option<Core>
+    ensures { IfSome result (λ after. LoadsAt reg address (core_of core) (core_of after)) }
+{
+    if may_read_into(&core.memory, address, reg, any) {
+        Some(read_into(core, reg, address, any))
+    } else {
+        None
+    }
+}
+
 /// r10 or r13 is popped: it is a word that may be read at rsp.
 fn pop_register(core: Core, reg: DrapRegister, any: &Anything<'_>) -> Option<Core>
     ensures { IfSome result (λ after. Effect (Op.PopReg reg) (core_of core) (core_of after)) }
 {
     let address = core.rsp;
-    if !core
-        .memory
-        .may_read(address, number_at(&any.registers, register_of(reg)))
-    {
-        return None;
+    match load_at(core, reg, address, any) {
+        None => None,
+        Some(loaded) => {
+            let mut after = loaded;
+            after.rsp = up(address, 8);
+            Some(after)
+        }
     }
-    let mut core = acted(core, any.registers);
-    core.rsp = up(address, 8);
-    read_top(core.shadow.as_mut_slice(), reg, address);
-    Some(core)
 }
 
 /// r10 or r13 is loaded: it is a word that may be read at rbp + at.
@@ -263,15 +290,7 @@ fn load_register(core: Core, reg: DrapRegister, at: i64, any: &Anything<'_>) -> 
     ensures { IfSome result (λ after. Effect (Op.LoadReg reg at) (core_of core) (core_of after)) }
 {
     let address = shifted(core.rbp, at);
-    if !core
-        .memory
-        .may_read(address, number_at(&any.registers, register_of(reg)))
-    {
-        return None;
-    }
-    let mut core = acted(core, any.registers);
-    read_top(core.shadow.as_mut_slice(), reg, address);
-    Some(core)
+    load_at(core, reg, address, any)
 }
 
 /// rbp is popped from rsp.
@@ -447,15 +466,23 @@ fn with_bp(core: Core, rbp: u64, any: &Anything<'_>) -> Core
     core
 }
 
-/// A register is rsp + by.
-fn set_register(core: Core, reg: u8, by: i64, any: &Anything<'_>) -> Option<Core>
-    ensures { IfSome result (λ after. Effect (Op.LeaReg reg by) (core_of core) (core_of after)) }
+/// A register is this number.
+fn set_to(core: Core, reg: u8, number: u64, any: &Anything<'_>) -> Option<Core>
+    ensures { IfSome result (λ after. SetsTo reg number (core_of core) (core_of after)) }
 {
-    if number_at(&any.registers, reg) == shifted(core.rsp, by) {
+    if number_at(&any.registers, reg) == number {
         Some(acted(core, any.registers))
     } else {
         None
     }
+}
+
+/// A register is rsp + by.
+fn set_register(core: Core, reg: u8, by: i64, any: &Anything<'_>) -> Option<Core>
+    ensures { IfSome result (λ after. Effect (Op.LeaReg reg by) (core_of core) (core_of after)) }
+{
+    let number = shifted(core.rsp, by);
+    set_to(core, reg, number, any)
 }
 
 /// A register, which may be rbp (5), is rsp + by.

@@ -4,6 +4,7 @@ ghost use Rattle.std.specs.Prelude.{IsTrue, IfSome, List};
 ghost use Rattle.state_defs.specs.Frame.{Frame as DefinedFrame};
 ghost use Rattle.state_defs.specs.State.{MeansDepth, MeansHome, Means, MeansTop, register_in, view_of};
 ghost use Rattle.machine_model.specs.Slot.{slot_of};
+ghost use Rattle.machine_model.specs.Standing.{StandsHere};
 ghost use Rattle.machine_model.specs.Frame.{frame_of, frames_of};
 ghost use Rattle.machine_model.specs.Standing.{core_of};
 
@@ -11,6 +12,7 @@ use crate::frame::Frame;
 use crate::registers::number_in;
 use crate::slot::Slot;
 use crate::standing::Core;
+use crate::told::Told;
 use program_model::shifted_back;
 use state_defs::{BpHome, Depth, SpCopy, State};
 
@@ -52,8 +54,13 @@ fn means_copy(copy: Option<SpCopy>, core: &Core, cfa: u64) -> bool
 }
 
 /// Whether a frame stands in the stack in use, and its function hasn't gone to another, nor told its top elsewhere.
-fn stands_here(core: &Core, frame: &Frame) -> bool {
-    frame.stack == core.stack && frame.cell.is_none() && frame.told.is_untold()
+fn stands_here(core: &Core, frame: &Frame) -> bool
+    ensures { IsTrue result → StandsHere (core_of core.now) (frame_of frame.now) }
+{
+    match (frame.cell, frame.told) {
+        (None, Told::Untold) => core.stack == frame.stack,
+        _ => false,
+    }
 }
 
 fn means_regs(full: bool, depth: i64, trap: bool, core: &Core, frame: &Frame) -> bool

@@ -7,7 +7,7 @@ ghost use Rattle.state_defs.specs.Effect.{is_at_cell, may_switch};
 ghost use Rattle.program_model.specs.Region.{memory_of, own_stack};
 ghost use Rattle.machine_model.specs.Slot.{slot_of};
 ghost use Rattle.machine_model.specs.Ending.{ending_of};
-ghost use Rattle.machine_model.specs.Frame.{cell_of, frames_of, own_keeping, words_of, IsWordKept};
+ghost use Rattle.machine_model.specs.Frame.{cell_of, frames_of, own_keeping, words_of, IsWordKept, IsWordOutside};
 
 use crate::frame::{Frame, Keeping, Protected};
 use crate::slot::Slot;
@@ -158,13 +158,20 @@ pub fn are_kept(
     Ok(true)
 }
 
+/// Whether a word doesn't lie in a stack.
+fn is_word_outside(stack: Stack, word: Protected) -> bool
+    ensures { IsTrue result → IsWordOutside (own_stack stack) word }
+{
+    u128::from(word.at) + 8 <= u128::from(stack.lo) || stack.hi <= word.at
+}
+
 /// Whether no protected slot of these frames lies in a stack.
 pub fn lie_outside(alloc: Global, stack: Stack, frames: &[Frame]) -> Result<bool, AllocError>
     ensures { IfOk result (λ lie. IsTrue lie → LieOutside (own_stack stack) (frames_of frames.now)) }
 {
     let words = protected(alloc, frames)?;
     for word in &words {
-        if u128::from(word.at) + 8 > u128::from(stack.lo) && word.at < stack.hi {
+        if !is_word_outside(stack, *word) {
             return Ok(false);
         }
     }
